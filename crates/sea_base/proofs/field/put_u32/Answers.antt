@@ -1,0 +1,5 @@
+use Rattle.sea_base.proofs.Fields.{put_field}
+use Rattle.sea_base.proofs.field.put_u32.Goals as goal
+
+pub returns : goal.returns
+returns c = put_field 4 c.args.at c.args.value c.args.bytes.now c.write_u32.new.buf c.requires c.write_u32.ensures

@@ -1,0 +1,30 @@
+//! Digests and sums by SHA-256 (FIPS 180-4).
+ghost use Rattle.std.specs.Prelude.{◌≡◌, take};
+ghost use Rattle.sha2.specs.Sha256.{sha256};
+ghost use Rattle.sea_base.specs.Field.{big_endian};
+
+use crate::{Block, u64_at};
+use sha2::{Digest as _, Sha256};
+
+/// The SHA-256 of a byte string.
+#[derive(Clone, Copy, Debug, PartialEq, Eq)]
+pub struct Digest(pub [u8; 32]);
+
+/// The first 8 bytes of a block's SHA-256, as a number.
+#[derive(Clone, Copy, Debug, PartialEq, Eq)]
+pub struct Sum(pub u64);
+
+/// The SHA-256 of the bytes.
+pub fn digest_of(bytes: &[u8]) -> Digest
+    ensures { result.0 ≡ sha256 bytes.now }
+{
+    Digest(Sha256::digest(bytes))
+}
+
+/// The sum of a block.
+pub fn sum_of(block: &Block) -> Sum
+    ensures { big_endian 8 result.0 ≡ take 8 (sha256 block.now) }
+{
+    let digest = digest_of(block.bytes());
+    Sum(u64_at(&digest.0, 0))
+}

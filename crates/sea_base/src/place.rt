@@ -1,0 +1,9 @@
+//! Places of blocks and numbers of commits.
+
+/// The place of a block on a device, counted from 0.
+#[derive(Clone, Copy, Debug, PartialEq, Eq, PartialOrd, Ord)]
+pub struct Paddr(pub u32);
+
+/// The number of a commit, counted from 1; 0 stands before the first.
+#[derive(Clone, Copy, Debug, PartialEq, Eq, PartialOrd, Ord)]
+pub struct Commit(pub u64);
