@@ -15,7 +15,7 @@ pub use data::Data;
 pub use digest::{Digest, Sum, digest_of, sum_of};
 pub use field::{put_u16, put_u32, put_u64, u16_at, u32_at, u64_at};
 pub use memory::{Duplicate, NoMemory};
-pub use name::{Key, Name, NameFault};
+pub use name::{Key, Name, NameFault, is_name};
 pub use place::{Commit, Paddr};
 pub use sequence::{Nths, Sequence};
 

@@ -1,5 +1,5 @@
 //! Names of objects, and keys of attributes and omaps.
-ghost use Rattle.std.specs.Prelude.{◌≡◌, ◌≤◌, ◌↔◌, length, IfOk, IsErrOf};
+ghost use Rattle.std.specs.Prelude.{◌≡◌, ◌≤◌, ◌↔◌, length, IfOk, IsErrOf, IsTrue};
 ghost use Rattle.sea_base.specs.Name.{IsName};
 
 use crate::{Data, Duplicate, NoMemory};
@@ -27,6 +27,13 @@ pub enum NameFault {
     BadName,
 }
 
+/// Whether bytes make a name: there are 1 to 64.
+pub fn is_name(bytes: &[u8]) -> bool
+    ensures { IsTrue result ↔ IsName bytes.now }
+{
+    (1..=64).contains(&bytes.len())
+}
+
 impl Model for Name {
     ghost use Rattle.std.specs.Prelude.{List, ℕ};
     ghost use Rattle.sea_base.specs.Name.{IsName};
@@ -46,7 +53,7 @@ impl Name {
         ensures ok { IfOk result (λ name. (name ≡ bytes.now) × IsName name) }
         ensures bad { IsErrOf result NameFault.BadName → IsName bytes.now → ⊥ }
     {
-        if bytes.is_empty() || bytes.len() > 64 {
+        if !is_name(bytes) {
             return Err(NameFault::BadName);
         }
         let bytes = Data::new(alloc, bytes).map_err(|_| NameFault::NoMemory)?;

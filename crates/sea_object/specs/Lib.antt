@@ -1,0 +1,5 @@
+pub mod Answer
+pub mod Objects
+pub mod Op
+pub mod Refusal
+pub mod Request

@@ -1,0 +1,14 @@
+//! Objects, the operations on them, requests and their replies.
+#![tactic(auto)]
+
+mod object;
+mod objects;
+mod op;
+mod reply;
+mod request;
+
+pub use object::Object;
+pub use objects::Objects;
+pub use op::{OBJECT_BYTES, Op, Ops, READ_BYTES};
+pub use reply::{Item, Items, Reply};
+pub use request::{Request, RequestFault};
