@@ -1,6 +1,6 @@
 //! Digests and sums by SHA-256 (FIPS 180-4).
 ghost use Rattle.std.specs.Prelude.{◌≡◌, take};
-ghost use Rattle.sha2.specs.Sha256.{sha256};
+ghost use Rattle.sea_base.specs.Digest.{sha256};
 ghost use Rattle.sea_base.specs.Field.{big_endian};
 
 use crate::{Block, u64_at};

@@ -1,5 +1,5 @@
 -- What the calls of a device do to its bytes, and to what a crash may leave.
-use Rattle.std.specs.Prelude.{◌≡◌, ◌⊎◌, ◌↔◌, ℕ, ◌+◌, ◌-◌, ◌*◌, ◌%◌, ◌^◌, ◌<◌, ◌≤◌, List, ◌++◌, length, take, drop, slice_index, Option, Some, None, Result, OnErr}
+use Rattle.std.specs.Prelude.{◌≡◌, ◌⊎◌, ◌↔◌, Bool, ℕ, ◌+◌, ◌-◌, ◌*◌, ◌%◌, ◌^◌, ◌<◌, ◌≤◌, List, ◌++◌, length, take, drop, slice_index, Option, Some, None, Result, OnErr}
 
 -- the bytes of so many blocks
 pub record IsImage (blocks : ℕ) (bytes : List ℕ) : Type 0 where
@@ -54,3 +54,11 @@ FaultsRose before now = (before < now) ⊎ (now ≡ 2 ^ 64 - 1)
 pub record HasCause {T E : Type 0} (before now : ℕ) (result : Result T E) : Type 0 where
   pub later : before ≤ now
   pub failed : OnErr result (FaultsRose before now)
+
+-- What reads leave of a device: all but its count of faults.
+pub record OnlyRead {D : Type 0} (blocks : D → ℕ) (bytes : D → Option (List ℕ)) (tells : D → Bool) (leaves : D → List ℕ → Type 0) (moment : D → ℕ) (since : D → ℕ → List ℕ → Type 0) (old new : D) : Type 0 where
+  pub size : blocks new ≡ blocks old
+  pub contents : bytes new ≡ bytes old
+  pub told : tells new ≡ tells old
+  pub images : IsSame (leaves old) (leaves new)
+  pub time : Elapses (moment old) (moment new) (since old) (since new) (leaves new)

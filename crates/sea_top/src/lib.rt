@@ -3,6 +3,8 @@
 
 mod history;
 mod plan;
+mod record;
 
 pub use history::Entry;
 pub use plan::{Asked, Plan};
+pub use record::{Piece, Pieces, PlainRecord};

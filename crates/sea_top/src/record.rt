@@ -1,0 +1,21 @@
+//! Plain records: what a request writes, as one run of blocks.
+use sea_base::{Commit, Data, Digest, Name, Sequence};
+
+/// Bytes that an object gets from an offset on. The object is made where there is none.
+#[derive(Debug, Drop)]
+pub struct Piece {
+    pub name: Name,
+    pub offset: u32,
+    pub bytes: Data,
+}
+
+/// The pieces of a record, in order.
+pub type Pieces = Sequence<Piece>;
+
+/// A plain record: its commit number, the digest of the record before it, and its pieces.
+#[derive(Debug, Drop)]
+pub struct PlainRecord {
+    pub commit: Commit,
+    pub previous: Digest,
+    pub pieces: Pieces,
+}
