@@ -54,3 +54,11 @@ pub fn put_u64(bytes: &mut [u8], at: usize, value: u64)
 {
     BigEndian::write_u64(&mut bytes[at..at + 8], value);
 }
+
+/// Writes bytes from `at` on.
+pub fn put_bytes(bytes: &mut [u8], at: usize, value: &[u8])
+    requires { at + length value.now ≤ length bytes.old }
+    ensures { bytes.new ≡ take at bytes.old ++ value.now ++ drop (at + length value.now) bytes.old }
+{
+    bytes[at..at + value.len()].copy_from_slice(value);
+}
