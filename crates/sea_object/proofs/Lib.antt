@@ -1,1 +1,5 @@
 pub mod Lookups
+pub mod Scan
+pub mod Undo
+pub mod Writes
+pub mod Making

@@ -7,17 +7,22 @@ use Rattle.sea_object.specs.declared.reply.Item.{Item}
 use Rattle.sea_object.specs.declared.reply.Item.TheVariants.{Unit as Done_item, Absent, Bytes}
 use Rattle.sea_object.specs.declared.reply.Reply.{Reply}
 use Rattle.sea_object.specs.declared.reply.Reply.TheVariants.{Done}
-use Rattle.sea_object.specs.Objects.{ObjectValue, ObjectMap, object_at}
+use Rattle.sea_object.specs.Objects.{ObjectValue, ObjectMap, object_at, with_bytes}
 
 -- the old bytes with new ones from an offset on, and zeros between where the old ones end before it
 abbrev pub written : ℕ → List ℕ → List ℕ → List ℕ
 written offset bytes old =
     take offset (old ++ replicate (offset - length old) 0) ++ bytes ++ drop (offset + length bytes) old
 
+-- an object's bytes after bytes were laid over them, which leave them as they are where there are none
+abbrev pub laid : ℕ → List ℕ → List ℕ → List ℕ
+laid offset [] old = old
+laid offset (b ∷ bytes) old = written offset (b ∷ bytes) old
+
 -- the objects after an operation
 abbrev pub effect : Op → ObjectMap → ObjectMap
 effect (Write name offset bytes) objects =
-    map.insert objects name (record (object_at objects name) { bytes = written offset bytes (object_at objects name).bytes })
+    with_bytes objects name (written offset bytes (object_at objects name).bytes)
 effect (Read name offset count) objects = objects
 
 -- what a read of an object answers

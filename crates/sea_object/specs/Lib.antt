@@ -3,3 +3,5 @@ pub mod Objects
 pub mod Op
 pub mod Refusal
 pub mod Request
+pub mod Scan
+pub mod Undo

@@ -27,6 +27,11 @@ empty_object = record { bytes = []; attributes = map.empty; omap = map.empty }
 abbrev pub object_at : ObjectMap → List ℕ → ObjectValue
 object_at objects name = unwrap_or (map.get objects name) empty_object
 
+-- the objects with these bytes for one of them
+abbrev pub with_bytes : ObjectMap → List ℕ → List ℕ → ObjectMap
+with_bytes objects name bytes =
+    map.insert objects name (record (object_at objects name) { bytes = bytes })
+
 -- how values under keys are stored
 abbrev pub values_code : Coded Values
 values_code = map.code {R = slice_cmp nat_cmp} (coded_list coded_ℕ) (coded_list coded_ℕ)

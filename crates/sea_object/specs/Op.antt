@@ -1,8 +1,13 @@
 -- The limits of an operation, and what it weighs.
-use Rattle.std.specs.Prelude.{ℕ, ◌+◌, ◌-◌, ◌/◌, ◌≤◌, length}
+use Rattle.std.specs.Prelude.{ℕ, ◌+◌, ◌-◌, ◌/◌, ◌≤◌, List, length}
 use Rattle.sea_base.specs.Name.{IsName}
 use Rattle.sea_object.specs.declared.op.Op.{Op}
 use Rattle.sea_object.specs.declared.op.Op.TheVariants.{Write, Read}
+
+-- the name of the object that an operation is on
+abbrev pub name_of : Op → List ℕ
+name_of (Write name offset bytes) = name
+name_of (Read name offset count) = name
 
 -- Writes end at 16,777,216 at most. A read begins there at most, and asks for 1 to 65,536 bytes.
 abbrev pub IsWithinLimits : Op → Type 0

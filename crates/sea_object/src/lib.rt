@@ -4,6 +4,8 @@
 mod object;
 mod objects;
 mod op;
+mod patch;
+pub mod plain;
 mod reply;
 mod request;
 
@@ -12,3 +14,6 @@ pub use objects::Objects;
 pub use op::{OBJECT_BYTES, Op, Ops, READ_BYTES};
 pub use reply::{Item, Items, Reply};
 pub use request::{Request, RequestFault};
+
+#[cfg(test)]
+mod tests;

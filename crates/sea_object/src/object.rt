@@ -1,7 +1,10 @@
 //! One object.
-ghost use Rattle.std.specs.Prelude.{◌≡◌};
+ghost use Rattle.std.specs.Prelude.{◌≡◌, ◌<◌, ◌^◌, take, drop, IfOk, OnOk, OnErr};
+ghost use Rattle.sea_object.specs.Answer.{written};
+ghost use Rattle.sea_object.specs.Undo.{Fits, restored};
 
-use sea_base::{Data, Key, Sequence};
+use crate::patch::{self, Saved};
+use sea_base::{Data, Key, NoMemory};
 use std::alloc::Global;
 use std::collections::BTreeMap;
 use std::marker::Model;
@@ -9,7 +12,7 @@ use std::marker::Model;
 /// An object: its bytes, its attributes and its omap.
 #[derive(Debug, Drop)]
 pub struct Object {
-    pub(crate) bytes: Sequence<u8>,
+    bytes: Vec<u8>,
     attributes: BTreeMap<Key, Data>,
     omap: BTreeMap<Key, Data>,
 }
@@ -22,7 +25,7 @@ impl Model for Object {
 
     ghost coded = { object_code };
 
-    ghost view = { λ o. record { bytes = o.bytes; attributes = map.from_entries o.attributes.entries; omap = map.from_entries o.omap.entries } };
+    ghost view = { λ o. record { bytes = o.bytes.items; attributes = map.from_entries o.attributes.entries; omap = map.from_entries o.omap.entries } };
 }
 
 impl Object {
@@ -33,7 +36,7 @@ impl Object {
         ensures { result ≡ empty_object }
     {
         Object {
-            bytes: Sequence::new(alloc),
+            bytes: Vec::new(alloc),
             attributes: BTreeMap::new(alloc),
             omap: BTreeMap::new(alloc),
         }
@@ -43,6 +46,25 @@ impl Object {
     pub fn bytes(&self) -> &[u8]
         ensures { result.now ≡ self.now.bytes }
     {
-        self.bytes.items()
+        self.bytes.as_slice()
+    }
+
+    /// Writes bytes from an offset on, and answers what takes this back. After want of memory the
+    /// object is as before.
+    pub(crate) fn write(&mut self, offset: usize, bytes: &[u8]) -> Result<Saved, NoMemory>
+        requires { offset < 2 ^ 63 }
+        ensures ok { OnOk result (self.new ≡ record self.old { bytes = written offset bytes.now self.old.bytes }) }
+        ensures saved { IfOk result (λ saved. Fits saved self.new.bytes × (restored saved self.new.bytes ≡ self.old.bytes)) }
+        ensures err { OnErr result (self.new ≡ self.old) }
+    {
+        patch::write_at(&mut self.bytes, offset, bytes)
+    }
+
+    /// Takes a write back.
+    pub(crate) fn restore(&mut self, saved: &Saved)
+        requires { Fits saved.now self.old.bytes }
+        ensures { self.new ≡ record self.old { bytes = restored saved.now self.old.bytes } }
+    {
+        patch::restore(&mut self.bytes, saved);
     }
 }

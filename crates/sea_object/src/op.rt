@@ -1,6 +1,6 @@
 //! Operations on objects, and the limits of each.
 ghost use Rattle.std.specs.Prelude.{◌≡◌, ◌↔◌, ◌+◌, ◌^◌, ◌≤◌, ◌<◌, IsTrue};
-ghost use Rattle.sea_object.specs.Op.{IsWithinLimits, blocks_touched, data_blocks, key_weight};
+ghost use Rattle.sea_object.specs.Op.{IsWithinLimits, blocks_touched, data_blocks, key_weight, name_of};
 
 use sea_base::{Data, Name, Sequence, is_name};
 
@@ -32,6 +32,16 @@ pub enum Op {
 pub type Ops = Sequence<Op>;
 
 impl Op {
+    /// The name of the object that the operation is on.
+    pub fn name(&self) -> &Name
+        ensures { result.now ≡ name_of self.now }
+    {
+        match self {
+            Op::Write { name, .. } => name,
+            Op::Read { name, .. } => name,
+        }
+    }
+
     /// Whether the operation's range is one that an object can have.
     pub fn is_within_limits(&self) -> bool
         ensures { IsTrue result ↔ IsWithinLimits self.now }

@@ -2,7 +2,7 @@
 use sea_base::{Data, Sequence};
 
 /// What an operation answers.
-#[derive(Debug, Drop)]
+#[derive(Debug, PartialEq, Eq, Drop)]
 pub enum Item {
     /// The operation was done, and has nothing to tell.
     Unit,
