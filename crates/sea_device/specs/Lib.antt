@@ -1,2 +1,10 @@
 pub mod Device
+pub mod Failures
+pub mod Images
+pub mod Laws
+pub mod Memory
+pub mod Moments
+pub mod Past
+pub mod Record
+pub mod Steady
 pub mod Stream

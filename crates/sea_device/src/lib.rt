@@ -2,8 +2,23 @@
 //! whole meaning, and their forms in memory.
 #![tactic(auto)]
 
+mod append;
 mod device;
+mod failures;
+mod memory;
+mod overwrite;
+mod record;
+mod sink;
+mod sources;
+mod steady;
 mod stream;
 
 pub use device::{Device, Failed};
+pub use memory::{Chosen, Fails, MemDevice};
+pub use sink::MemSink;
+pub use sources::{MemSource, SteadySource};
+pub use steady::SteadyDevice;
 pub use stream::{Sink, Source};
+
+#[cfg(test)]
+mod tests;
