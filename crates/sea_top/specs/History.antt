@@ -1,5 +1,5 @@
 -- Histories of served requests.
-use Rattle.std.specs.Prelude.{◌≡◌, ◌⊎◌, ℕ, ◌-◌, ◌≤◌, List, [], ◌∷◌, length, map, filter, nat_eq, Option, Some, slice_get}
+use Rattle.std.specs.Prelude.{◌≡◌, ℕ, ◌-◌, ◌≤◌, List, [], ◌∷◌, length, map, filter, nat_eq, Some, slice_get}
 use Rattle.std.specs.List.{range_with_len}
 use Rattle.sea_object.specs.declared.op.Op.{Op}
 use Rattle.sea_object.specs.declared.reply.Reply.{Reply}
@@ -29,7 +29,7 @@ after_reply (Full need rest empty) request objects = objects
 
 -- The history is legal from these objects, and leaves those: each entry stands for a request of the plan,
 -- with the reply of a map of objects run one request at a time.
-data Legal (plan : List Asked) : ObjectMap → List Entry → ObjectMap → Type 0 where
+pub data Legal (plan : List Asked) : ObjectMap → List Entry → ObjectMap → Type 0 where
   none : {objects : ObjectMap} → Legal plan objects [] objects
   more : {objects last : ObjectMap} {entry : Entry} {entries : List Entry} (request : List Op) → slice_get (requests_of entry.client plan) (entry.number - 1) ≡ Some request → IsReply entry.reply request objects → Legal plan (after_reply entry.reply request objects) entries last → Legal plan objects (entry ∷ entries) last
 

@@ -1,11 +1,13 @@
 -- Plain records: what they hold, and how they are spelled.
-use Rattle.std.specs.Prelude.{◌≡◌, ℕ, ◌+◌, ◌-◌, ◌*◌, ◌/◌, ◌^◌, ◌<◌, ◌≤◌, List, [], ◌∷◌, ◌++◌, length, replicate, codes}
+use Rattle.std.specs.Prelude.{◌≡◌, ℕ, ◌+◌, ◌-◌, ◌*◌, ◌/◌, ◌^◌, ◌<◌, ◌≤◌, List, ◌++◌, length, replicate}
 use Rattle.std.specs.List.{flat_map, AllByRecursion}
 use Rattle.sea_base.specs.Digest.{sha256}
 use Rattle.sea_base.specs.Field.{big_endian}
 use Rattle.sea_base.specs.Name.{IsName}
+use Rattle.sea_top.specs.declared.record.header.Header.{Header}
 use Rattle.sea_top.specs.declared.record.Piece.{Piece}
 use Rattle.sea_top.specs.declared.record.PlainRecord.{PlainRecord}
+use Rattle.sea_top.specs.Header.{header_bytes}
 
 -- a piece ends at 16,777,216 at most
 abbrev pub IsPiece : Piece → Type 0
@@ -33,10 +35,20 @@ pub record IsPlain (plain : PlainRecord) : Type 0 where
   pub pieces : AllByRecursion IsPiece plain.pieces
   pub blocks : blocks_of plain.pieces ≤ 1024
 
--- The bytes of a record with this digest in the place of its own. What no field names is zero.
+-- the header of a record with this digest in the place of its own
+abbrev pub header_of : PlainRecord → List ℕ → Header
+header_of plain digest = record {
+  commit = plain.commit;
+  blocks = blocks_of plain.pieces;
+  body_len = length (body_bytes plain.pieces);
+  previous = plain.previous;
+  digest = record { 0 = digest };
+}
+
+-- The bytes of a record with this digest in the place of its own: its header, its pieces, and zeros up to its end.
 unfoldable pub sealed : PlainRecord → List ℕ → List ℕ
 sealed plain digest =
-    codes "SEAPLAIN" ++ big_endian 8 plain.commit.0 ++ big_endian 4 (blocks_of plain.pieces) ++ big_endian 4 (length (body_bytes plain.pieces)) ++ replicate 8 0 ++ plain.previous.0 ++ digest ++ body_bytes plain.pieces ++ replicate (4096 * blocks_of plain.pieces - (96 + length (body_bytes plain.pieces))) 0
+    header_bytes (header_of plain digest) ++ body_bytes plain.pieces ++ replicate (4096 * blocks_of plain.pieces - (96 + length (body_bytes plain.pieces))) 0
 
 -- A record's digest is taken with zeros in its own place.
 unfoldable pub digest_of : PlainRecord → List ℕ
@@ -45,3 +57,13 @@ digest_of plain = sha256 (sealed plain (replicate 32 0))
 -- the one spelling of a record
 unfoldable pub spelling : PlainRecord → List ℕ
 spelling plain = sealed plain (digest_of plain)
+
+-- the bytes begin with this record's spelling
+pub record BeginsWith (bytes : List ℕ) (plain : PlainRecord) : Type 0 where
+  pub plain_record : IsPlain plain
+  pub behind : List ℕ
+  pub spelled : bytes ≡ spelling plain ++ behind
+
+-- and with no record's
+abbrev pub BeginsWithNone : List ℕ → Type 0
+BeginsWithNone bytes = (plain : PlainRecord) → BeginsWith bytes plain → ⊥

@@ -14,8 +14,12 @@ item_text Unit = codes "-"
 item_text Absent = codes "none"
 item_text (Bytes bytes) = data_text bytes
 
+-- each item behind a space
+unfoldable pub items_text : List Item → List ℕ
+items_text items = flat_map (λ item. 32 ∷ item_text item) items
+
 unfoldable pub reply_text : Reply → List ℕ
-reply_text (Done items) = codes "done" ++ flat_map (λ item. 32 ∷ item_text item) items
+reply_text (Done items) = codes "done" ++ items_text items
 reply_text (Full need rest empty) =
     codes "full " ++ decimal need ++ 32 ∷ decimal rest ++ 32 ∷ decimal empty
 

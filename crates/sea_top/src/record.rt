@@ -1,5 +1,11 @@
 //! Plain records: what a request writes, as one run of blocks.
+mod header;
+mod reading;
+mod writing;
+
+pub use reading::{RECORD_BLOCKS, read_record};
 use sea_base::{Commit, Data, Digest, Name, Sequence};
+pub use writing::{push_record, record_blocks};
 
 /// Bytes that an object gets from an offset on. The object is made where there is none.
 #[derive(Debug, Drop)]
@@ -19,3 +25,6 @@ pub struct PlainRecord {
     pub previous: Digest,
     pub pieces: Pieces,
 }
+
+#[cfg(test)]
+mod tests;

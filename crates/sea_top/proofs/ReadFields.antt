@@ -1,0 +1,140 @@
+-- The fields that stand in the bytes of a header and of a piece.
+use Rattle.std.proofs.Common.{◌≡◌, Bool, true, false, ℕ, ◌+◌, ◌<◌, ◌≤◌, List, [], ◌∷◌, ◌++◌, length, get_or, take, drop, replicate, codes, refl, sym, ap, subst, ◌∙◌, arith, append_assoc, length-append, take-append-drop}
+use Rattle.std.specs.Prelude.{slice_range, not}
+use Rattle.std.specs.Str.{bytes_eq}
+use Rattle.std.proofs.lemmas.List.{length-replicate}
+use Rattle.std.proofs.lemmas.Slice.Eq.{bytes_eq-Decides}
+use Rattle.sea_base.specs.Field.{big_endian}
+use Rattle.sea_base.proofs.Fields.{length-big_endian}
+use Rattle.sea_top.specs.declared.record.Piece.{Piece}
+use Rattle.sea_top.specs.declared.record.header.Header.{Header}
+use Rattle.sea_top.specs.Header.{header_bytes, IsHeader}
+use Rattle.sea_top.specs.Record.{IsPiece, piece_bytes}
+use Rattle.sea_top.proofs.RecordLengths.{one_byte, length-piece_bytes, length-header_bytes}
+use Rattle.sea_top.proofs.SameHeaders.{header_parts}
+use Rattle.sea_top.proofs.SamePieces.{piece_parts}
+use Rattle.sea_top.proofs.Slices.{slice_at, slice_then}
+
+-- what is tested of a header
+pub record HeaderFields (bytes : List ℕ) : Type 0 where
+  pub long : 96 ≤ length bytes
+  pub magic : take 8 bytes ≡ codes "SEAPLAIN"
+  pub zero : slice_range bytes 24 32 ≡ replicate 8 0
+
+pub header_fields : (bytes : List ℕ) (h : Header) (rest : List ℕ) → IsHeader h → bytes ≡ header_bytes h ++ rest → HeaderFields bytes
+header_fields bytes h rest is e =
+    let m = codes "SEAPLAIN" in
+    let c = big_endian 8 h.commit.0 in
+    let b = big_endian 4 h.blocks in
+    let l = big_endian 4 h.body_len in
+    let z = replicate {A = ℕ} 8 0 in
+    let behind = h.previous.0 ++ (h.digest.0 ++ rest) in
+    let whole = e ∙ header_parts h rest in
+    let grouped : m ++ (c ++ (b ++ (l ++ (z ++ behind)))) ≡ (m ++ c ++ b ++ l) ++ (z ++ behind) = simp append_assoc in
+    let len : length (m ++ c ++ b ++ l) ≡ 24 = omega (arith, length-append (m ++ c ++ b) l, length-append (m ++ c) b, length-append m c, length-big_endian 8 h.commit.0, length-big_endian 4 h.blocks, length-big_endian 4 h.body_len) in
+    record {
+      long = omega (arith, ap length e, length-append (header_bytes h) rest, length-header_bytes h is.previous is.digest);
+      magic = ap (take 8) whole;
+      zero = ap (λ (x : List ℕ). slice_range x 24 32) (whole ∙ grouped) ∙ slice_at (m ++ c ++ b ++ l) z behind 24 32 len refl;
+    }
+
+-- what is read makes the header's bytes
+pub header_read : (bytes : List ℕ) (h : Header) → take 8 bytes ≡ codes "SEAPLAIN" → slice_range bytes 8 16 ≡ big_endian 8 h.commit.0 → slice_range bytes 16 20 ≡ big_endian 4 h.blocks → slice_range bytes 20 24 ≡ big_endian 4 h.body_len
+    → slice_range bytes 24 32 ≡ replicate 8 0 → h.previous.0 ≡ slice_range bytes 32 64 → h.digest.0 ≡ slice_range bytes 64 96 → header_bytes h ≡ take 96 bytes
+unfolding header_bytes
+header_read bytes h m c b l z p d =
+    let s : ℕ → ℕ → List ℕ = slice_range bytes in
+    let made : List ℕ → List ℕ → List ℕ → List ℕ → List ℕ → List ℕ → List ℕ → List ℕ = λ m c b l z p d. m ++ c ++ b ++ l ++ z ++ p ++ d in
+    let be : ℕ → ℕ → List ℕ = big_endian in
+    let rest : List ℕ = replicate 8 0 in
+    ap (λ (x : List ℕ). made x (be 8 h.commit.0) (be 4 h.blocks) (be 4 h.body_len) rest h.previous.0 h.digest.0) (sym m)
+    ∙ ap (λ (x : List ℕ). made (s 0 8) x (be 4 h.blocks) (be 4 h.body_len) rest h.previous.0 h.digest.0) (sym c)
+    ∙ ap (λ (x : List ℕ). made (s 0 8) (s 8 16) x (be 4 h.body_len) rest h.previous.0 h.digest.0) (sym b)
+    ∙ ap (λ (x : List ℕ). made (s 0 8) (s 8 16) (s 16 20) x rest h.previous.0 h.digest.0) (sym l)
+    ∙ ap (λ (x : List ℕ). made (s 0 8) (s 8 16) (s 16 20) (s 20 24) x h.previous.0 h.digest.0) (sym z)
+    ∙ ap (λ (x : List ℕ). made (s 0 8) (s 8 16) (s 16 20) (s 20 24) (s 24 32) x h.digest.0) p
+    ∙ ap (λ (x : List ℕ). made (s 0 8) (s 8 16) (s 16 20) (s 20 24) (s 24 32) (s 32 64) x) d
+    ∙ ap (λ (x : List ℕ). x ++ s 16 20 ++ s 20 24 ++ s 24 32 ++ s 32 64 ++ s 64 96) (slice_then bytes 0 8 16 (omega arith) (omega arith))
+    ∙ ap (λ (x : List ℕ). x ++ s 20 24 ++ s 24 32 ++ s 32 64 ++ s 64 96) (slice_then bytes 0 16 20 (omega arith) (omega arith))
+    ∙ ap (λ (x : List ℕ). x ++ s 24 32 ++ s 32 64 ++ s 64 96) (slice_then bytes 0 20 24 (omega arith) (omega arith))
+    ∙ ap (λ (x : List ℕ). x ++ s 32 64 ++ s 64 96) (slice_then bytes 0 24 32 (omega arith) (omega arith))
+    ∙ ap (λ (x : List ℕ). x ++ s 64 96) (slice_then bytes 0 32 64 (omega arith) (omega arith))
+    ∙ slice_then bytes 0 64 96 (omega arith) (omega arith)
+
+-- where the fields of a piece stand, whose name has n bytes
+pub record PieceFields (bytes : List ℕ) (n : ℕ) (p : Piece) : Type 0 where
+  pub first : n ≡ length p.name
+  pub long : 9 + n + length p.bytes ≤ length bytes
+  pub name : slice_range bytes 1 (1 + n) ≡ p.name
+  pub offset : slice_range bytes (1 + n) (1 + n + 4) ≡ big_endian 4 p.offset
+  pub count : slice_range bytes (1 + n + 4) (1 + n + 4 + 4) ≡ big_endian 4 (length p.bytes)
+
+pub piece_fields : (bytes : List ℕ) (p : Piece) (rest : List ℕ) → IsPiece p → bytes ≡ piece_bytes p ++ rest → PieceFields bytes (get_or bytes 0 0) p
+piece_fields bytes p rest is e =
+    subst (λ (n : ℕ). PieceFields bytes n p) (sym first) (record {
+      first = refl;
+      long = omega (arith, ap length e, length-append (piece_bytes p) rest, length-piece_bytes p);
+      name = ap (λ (x : List ℕ). slice_range x 1 (1 + n)) whole ∙ slice_at (n ∷ []) p.name (o ++ (l ++ (p.bytes ++ rest))) 1 (1 + n) refl refl;
+      offset = ap (λ (x : List ℕ). slice_range x (1 + n) (1 + n + 4)) whole ∙ slice_at (n ∷ p.name) o (l ++ (p.bytes ++ rest)) (1 + n) (1 + n + 4) (omega arith) (omega (arith, length-big_endian 4 p.offset));
+      count = ap (λ (x : List ℕ). slice_range x (1 + n + 4) (1 + n + 4 + 4)) (whole ∙ ap (λ (x : List ℕ). n ∷ x) (sym (append_assoc p.name o (l ++ (p.bytes ++ rest))))) ∙ slice_at (n ∷ (p.name ++ o)) l (p.bytes ++ rest) (1 + n + 4) (1 + n + 4 + 4) (omega (arith, length-append p.name o, length-big_endian 4 p.offset)) (omega (arith, length-big_endian 4 (length p.bytes)));
+    })
+  where
+    n : ℕ
+    n = length p.name
+
+    o : List ℕ
+    o = big_endian 4 p.offset
+
+    l : List ℕ
+    l = big_endian 4 (length p.bytes)
+
+    whole : bytes ≡ n ∷ (p.name ++ (o ++ (l ++ (p.bytes ++ rest))))
+    whole = e ∙ piece_parts p rest ∙ ap (λ (x : List ℕ). x ++ (p.name ++ (o ++ (l ++ (p.bytes ++ rest))))) (sym (one_byte n (omega arith)))
+
+    first : get_or bytes 0 0 ≡ n
+    first = ap (λ (x : List ℕ). get_or x 0 0) whole
+
+-- what is read makes the piece's bytes
+pub piece_read : (bytes : List ℕ) (n end : ℕ) (p : Piece) → 1 ≤ length bytes → n ≡ get_or bytes 0 0 → n ≡ length p.name → n < 256 → p.name ≡ slice_range bytes 1 (1 + n) → slice_range bytes (1 + n) (1 + n + 4) ≡ big_endian 4 p.offset
+    → slice_range bytes (1 + n + 4) (1 + n + 4 + 4) ≡ big_endian 4 (length p.bytes) → p.bytes ≡ slice_range bytes (1 + n + 8) end → 1 + n + 8 ≤ end → bytes ≡ piece_bytes p ++ drop end bytes
+unfolding piece_bytes
+piece_read bytes n end p some first len below name offset count tail le =
+    let s : ℕ → ℕ → List ℕ = slice_range bytes in
+    let o = big_endian 4 p.offset in
+    let l = big_endian 4 (length p.bytes) in
+    let front : big_endian 1 (length p.name) ≡ s 0 1 = ap (big_endian 1) (sym len) ∙ sym (one_byte n below) ∙ ap (λ (x : ℕ). x ∷ []) first ∙ one bytes some in
+    let made : piece_bytes p ≡ take end bytes =
+    ap (λ (x : List ℕ). x ++ p.name ++ o ++ l ++ p.bytes) front
+    ∙ ap (λ (x : List ℕ). s 0 1 ++ x ++ o ++ l ++ p.bytes) name
+    ∙ ap (λ (x : List ℕ). s 0 1 ++ s 1 (1 + n) ++ x ++ l ++ p.bytes) (sym offset)
+    ∙ ap (λ (x : List ℕ). s 0 1 ++ s 1 (1 + n) ++ s (1 + n) (1 + n + 4) ++ x ++ p.bytes) (sym count)
+    ∙ ap (λ (x : List ℕ). s 0 1 ++ s 1 (1 + n) ++ s (1 + n) (1 + n + 4) ++ s (1 + n + 4) (1 + n + 4 + 4) ++ x) (tail ∙ ap (λ (k : ℕ). s k end) (omega arith))
+    ∙ ap (λ (x : List ℕ). x ++ s (1 + n) (1 + n + 4) ++ s (1 + n + 4) (1 + n + 4 + 4) ++ s (1 + n + 4 + 4) end) (slice_then bytes 0 1 (1 + n) (omega arith) (omega arith))
+    ∙ ap (λ (x : List ℕ). x ++ s (1 + n + 4) (1 + n + 4 + 4) ++ s (1 + n + 4 + 4) end) (slice_then bytes 0 (1 + n) (1 + n + 4) (omega arith) (omega arith))
+    ∙ ap (λ (x : List ℕ). x ++ s (1 + n + 4 + 4) end) (slice_then bytes 0 (1 + n + 4) (1 + n + 4 + 4) (omega arith) (omega arith))
+    ∙ slice_then bytes 0 (1 + n + 4 + 4) end (omega arith) (omega arith)
+    ∙ ap (λ (k : ℕ). take k bytes) (omega arith) in
+    sym (take-append-drop end bytes) ∙ ap (λ (x : List ℕ). x ++ drop end bytes) (sym made)
+  where
+    one : (xs : List ℕ) → 1 ≤ length xs → get_or xs 0 0 ∷ [] ≡ slice_range xs 0 1
+    one [] some = absurd (omega arith)
+    one (x ∷ xs) some = refl
+
+-- what a comparison of two byte strings tells
+pub differing : (xs ys : List ℕ) (r : Bool) → r ≡ not (bytes_eq xs ys) → r ≡ true → xs ≡ ys → ⊥
+differing xs ys r e differ same = never (bytes_eq xs ys) ((bytes_eq-Decides xs ys).1 same) (sym e ∙ differ)
+  where
+    never : (b : Bool) → b ≡ true → not b ≡ true → ⊥
+    never true e f = cc
+    never false e f = cc
+
+pub equal : (xs ys : List ℕ) (r : Bool) → r ≡ not (bytes_eq xs ys) → r ≡ false → xs ≡ ys
+equal xs ys r e same = (bytes_eq-Decides xs ys).0 (told (bytes_eq xs ys) (sym e ∙ same))
+  where
+    told : (b : Bool) → not b ≡ false → b ≡ true
+    told true e = refl
+    told false e = absurd cc
+
+-- zeros, by their length and by a number
+pub zeros_long : (xs : List ℕ) (n : ℕ) → xs ≡ replicate n 0 → xs ≡ replicate (length xs) 0
+zeros_long xs n e = e ∙ ap (λ (k : ℕ). replicate k 0) (sym (ap length e ∙ length-replicate {A = ℕ} n 0))

@@ -1,0 +1,36 @@
+-- One reading after another.
+use Rattle.std.proofs.Common.{ℕ, ◌≤◌, Bool, List, Option, refl, ◌∙◌, inl, inr, arith}
+use Rattle.sea_device.specs.Device.{FaultsRose, OnlyRead}
+
+module _ {D : Type 0} {blocks : D → ℕ} {bytes : D → Option (List ℕ)} {tells : D → Bool} {leaves : D → List ℕ → Type 0} {moment : D → ℕ} {since : D → ℕ → List ℕ → Type 0} where
+  -- reading nothing
+  pub OnlyRead-none : (d : D) → OnlyRead blocks bytes tells leaves moment since d d
+  OnlyRead-none d = record {
+    size = refl;
+    contents = refl;
+    told = refl;
+    images = λ c. (λ left. left, λ left. left);
+    time = record { later = omega arith; nothing_else = λ t c before left. inl left; keeps = λ t c before left. left };
+  }
+
+  -- reading on
+  pub OnlyRead-more : (d e f : D) → OnlyRead blocks bytes tells leaves moment since d e → OnlyRead blocks bytes tells leaves moment since e f → OnlyRead blocks bytes tells leaves moment since d f
+  OnlyRead-more d e f first second = record {
+    size = second.size ∙ first.size;
+    contents = second.contents ∙ first.contents;
+    told = second.told ∙ first.told;
+    images = λ c. (λ left. (second.images c).0 ((first.images c).0 left), λ left. (first.images c).1 ((second.images c).1 left));
+    time = record {
+      later = omega arith;
+      nothing_else = λ t c before left. elim (second.time.nothing_else t c (omega arith) left) [
+        | inl past ↦ elim (first.time.nothing_else t c before past) [ inl past' ↦ inl past' | inr now ↦ inr ((second.images c).0 now) ]
+        | inr now ↦ inr now
+      ];
+      keeps = λ t c before past. second.time.keeps t c (omega arith) (first.time.keeps t c before past);
+    };
+  }
+
+-- a count that rose after it had not fallen
+pub FaultsRose-later : (before mid now : ℕ) → before ≤ mid → FaultsRose mid now → FaultsRose before now
+FaultsRose-later before mid now later (inl rose) = inl (omega arith)
+FaultsRose-later before mid now later (inr full) = inr full

@@ -1,0 +1,60 @@
+-- Pieces are told by their bytes.
+use Rattle.std.proofs.Common.{◌≡◌, ℕ, ◌^◌, ◌<◌, List, [], ◌∷◌, ◌++◌, length, take, drop, refl, sym, ap, ◌∙◌, arith, append_assoc, length-append}
+use Rattle.std.specs.List.{AllByRecursion}
+use Rattle.std.proofs.lemmas.List.{take_at, drop_at, append-nil}
+use Rattle.sea_base.specs.Field.{big_endian}
+use Rattle.sea_base.proofs.Fields.{length-big_endian, big_endian-injective}
+use Rattle.sea_top.specs.declared.record.Piece.{Piece}
+use Rattle.sea_top.specs.Record.{IsPiece, piece_bytes, body_bytes}
+use Rattle.sea_top.proofs.RecordLengths.{length-piece_bytes, body_bytes-cons, body_bytes-nil}
+
+-- fronts of one length are the same, and so are the rests
+pub same_parts : {A : Type 0} (xs ys rs ss : List A) → length xs ≡ length ys → xs ++ rs ≡ ys ++ ss → (xs ≡ ys) × (rs ≡ ss)
+same_parts xs ys rs ss len e = (
+  sym (take_at xs rs (length ys) len) ∙ ap (take (length ys)) e ∙ take_at ys ss (length ys) refl,
+  sym (drop_at xs rs (length ys) len) ∙ ap (drop (length ys)) e ∙ drop_at ys ss (length ys) refl,
+)
+
+-- fields of one width with the same bytes hold one number
+pub same_field : (n x y : ℕ) (rs ss : List ℕ) → x < 256 ^ n → y < 256 ^ n → big_endian n x ++ rs ≡ big_endian n y ++ ss → (x ≡ y) × (rs ≡ ss)
+same_field n x y rs ss fx fy e =
+    let parts = same_parts (big_endian n x) (big_endian n y) rs ss (length-big_endian n x ∙ sym (length-big_endian n y)) e in
+    (big_endian-injective n x y fx fy parts.0, parts.1)
+
+-- a piece's fields, one behind the other
+pub piece_parts : (p : Piece) (rest : List ℕ) → piece_bytes p ++ rest ≡ big_endian 1 (length p.name) ++ (p.name ++ (big_endian 4 p.offset ++ (big_endian 4 (length p.bytes) ++ (p.bytes ++ rest))))
+unfolding piece_bytes
+piece_parts p rest = simp append_assoc
+
+pub same_piece : (p q : Piece) (rs ss : List ℕ) → IsPiece p → IsPiece q → piece_bytes p ++ rs ≡ piece_bytes q ++ ss → (p ≡ q) × (rs ≡ ss)
+same_piece p q rs ss is_p is_q e =
+    let e1 = sym (piece_parts p rs) ∙ e ∙ piece_parts q ss in
+    let f1 = same_field 1 (length p.name) (length q.name) _ _ (omega arith) (omega arith) e1 in
+    let f2 = same_parts p.name q.name _ _ f1.0 f1.1 in
+    let f3 = same_field 4 p.offset q.offset _ _ (omega arith) (omega arith) f2.1 in
+    let f4 = same_field 4 (length p.bytes) (length q.bytes) _ _ (omega arith) (omega arith) f3.1 in
+    let f5 = same_parts p.bytes q.bytes rs ss f4.0 f4.1 in
+    let made : List ℕ → ℕ → List ℕ → Piece = λ n o b. record { name = n; offset = o; bytes = b } in
+    (ap (λ (n : List ℕ). made n p.offset p.bytes) f2.0 ∙ ap (λ (o : ℕ). made q.name o p.bytes) f3.0 ∙ ap (made q.name q.offset) f5.0, f5.1)
+
+-- pieces and a rest that are pieces: these begin with those, and the rest is the others
+pub same_front : (ps qs : List Piece) (rest : List ℕ) → AllByRecursion IsPiece ps → AllByRecursion IsPiece qs → body_bytes ps ++ rest ≡ body_bytes qs → (more : List Piece) × AllByRecursion IsPiece more × (qs ≡ ps ++ more) × (rest ≡ body_bytes more)
+same_front [] qs rest all_p all_q e =
+    (qs, all_q, refl, ap (λ (b : List ℕ). b ++ rest) (sym body_bytes-nil) ∙ e)
+same_front (p ∷ ps) [] rest all_p all_q e =
+    absurd (omega (arith, length-append (body_bytes (p ∷ ps)) rest, ap length e, ap length (body_bytes-cons p ps), length-append (piece_bytes p) (body_bytes ps), length-piece_bytes p, ap length body_bytes-nil))
+same_front (p ∷ ps) (q ∷ qs) rest all_p all_q e =
+    let e1 : piece_bytes p ++ (body_bytes ps ++ rest) ≡ piece_bytes q ++ body_bytes qs =
+    sym (append_assoc (piece_bytes p) (body_bytes ps) rest) ∙ ap (λ (b : List ℕ). b ++ rest) (sym (body_bytes-cons p ps)) ∙ e ∙ body_bytes-cons q qs in
+    let first = same_piece p q (body_bytes ps ++ rest) (body_bytes qs) all_p.0 all_q.0 e1 in
+    let others = same_front ps qs rest all_p.1 all_q.1 first.1 in
+    (others.0, others.1, ap (λ (r : Piece). r ∷ qs) (sym first.0) ∙ ap (λ (r : List Piece). p ∷ r) others.2, others.3)
+
+pub same_body : (ps qs : List Piece) → AllByRecursion IsPiece ps → AllByRecursion IsPiece qs → body_bytes ps ≡ body_bytes qs → ps ≡ qs
+same_body ps qs all_p all_q e =
+    let more = same_front ps qs [] all_p all_q (append-nil (body_bytes ps) ∙ e) in
+    sym (append-nil ps) ∙ ap (λ (m : List Piece). ps ++ m) (sym (none more.0 more.3)) ∙ sym more.2
+  where
+    none : (more : List Piece) → [] ≡ body_bytes more → more ≡ []
+    none [] e = refl
+    none (p ∷ more) e = absurd (omega (arith, ap length e, ap length (body_bytes-cons p more), length-append (piece_bytes p) (body_bytes more), length-piece_bytes p))

@@ -1,0 +1,19 @@
+use Rattle.sea_top.proofs.ReadPieces.{none_read, more_read, nearer, stops}
+use Rattle.sea_top.proofs.record.reading.read_pieces.Goals as goal
+
+pub loop-rest-init : goal.loop-rest-init
+loop-rest-init c =
+    let none = none_read c.args.bytes.now c.new-pieces.result c.new-pieces.ensures in record { all = none.0; read = none.1 }
+
+pub returns-in_default : goal.returns-in_default
+returns-in_default c =
+    stops c.args.bytes.now c.loop-rest.rest.now c.loop-rest.pieces c.loop-rest.invariant.all c.loop-rest.invariant.read c.loop-rest-test.ensures (rw c.in_default.is at c.in_ok-piece.ensures)
+
+pub loop-rest-smaller : goal.loop-rest-smaller
+loop-rest-smaller c =
+    nearer c.loop-rest.rest.now c.in-Some.behind.now c.in-Some.piece (rw c.in-Some.is at c.in_ok-piece.ensures)
+
+pub loop-rest-preserved : goal.loop-rest-preserved
+loop-rest-preserved c =
+    let more = more_read c.args.bytes.now c.loop-rest.rest.now c.in-Some.behind.now c.loop-rest.pieces c.push.new.self c.in-Some.piece c.in_ok-push.ensures.ok c.loop-rest.invariant.all c.loop-rest.invariant.read (rw c.in-Some.is at c.in_ok-piece.ensures) in
+    record { all = more.0; read = more.1 }

@@ -1,0 +1,40 @@
+//! Serving a plan over the objects.
+ghost use Rattle.std.specs.Prelude.{◌≡◌, ◌≤◌, [], length, OnOk, IsOk};
+ghost use Rattle.sea_object.specs.Objects.{ObjectMap};
+ghost use Rattle.sea_top.specs.Serving.{AsksFirst, Served, Queues};
+
+use crate::queue::Queue;
+use crate::reply::reply_to;
+use crate::{Asked, Entry};
+use sea_base::{NoMemory, Sequence};
+use sea_object::Objects;
+use std::alloc::Global;
+
+/// Answers the requests of client 1 in order, enters each reply, and queues each record. After want of
+/// memory the entries so far stand.
+pub fn serve_all(
+    alloc: Global,
+    objects: &mut Objects,
+    queue: &mut Queue,
+    entries: &mut Sequence<Entry>,
+    plan: &[Asked],
+) -> Result<(), NoMemory>
+    requires first { AsksFirst plan.now }
+    requires few { length plan.now ≤ 10000 }
+    requires none { entries.old ≡ [] }
+    ensures entries { (last : ObjectMap) × (left : _) × Served plan.now objects.old last queue.old.rest left entries.new }
+    ensures all { OnOk result (Served plan.now objects.old objects.new queue.old.rest queue.new.rest entries.new
+        × (length entries.new ≡ length plan.now)) }
+    ensures queued { OnOk result (Queues objects.old objects.new queue.old queue.new) }
+{
+    for asked in plan {
+        let number = entries.items().len() as u32 + 1;
+        let reply = reply_to(alloc, objects, queue, &asked.request)?;
+        entries.push(Entry {
+            client: asked.client,
+            number,
+            reply,
+        })?;
+    }
+    Ok(())
+}

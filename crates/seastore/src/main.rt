@@ -1,0 +1,38 @@
+//! The store in memory: its words are the command, standard input the script, standard output the replies.
+#![tactic(auto)]
+
+mod streams;
+
+use sea_base::NoMemory;
+use sea_device::SteadyDevice;
+use sea_top::{Refusal, Status, tool};
+use std::process::ExitCode;
+use std::{env, io};
+use streams::{StdSink, StdSource};
+
+/// The blocks of the device in memory.
+const BLOCKS: u32 = 2049;
+
+fn main(rt: HostRuntime) -> ExitCode {
+    let status = run(&rt).unwrap_or(Refusal::NoMemory.status());
+    ExitCode::from(status.0)
+}
+
+// Does the command, and fails only for want of memory before it begins.
+fn run(rt: &HostRuntime) -> Result<Status, NoMemory> {
+    let words = words(rt).map_err(|_| NoMemory)?;
+    let device = SteadyDevice::new(rt.alloc(), BLOCKS)?;
+    let mut input = StdSource::new(rt.reader());
+    let mut out = StdSink::new(io::writer(rt));
+    let (status, _) = tool(rt.alloc(), &words, &mut input, &mut out, device);
+    Ok(status)
+}
+
+// The words behind the program's name.
+fn words(rt: &HostRuntime) -> io::Result<Vec<String>> {
+    let mut words = Vec::new(rt.alloc());
+    for word in env::args(rt)?.skip(1) {
+        words.push(word)?;
+    }
+    Ok(words)
+}
