@@ -75,7 +75,7 @@ front_part image other from count whole within same =
     front other ∙ ap (λ (b : List ℕ). drop from (take (from + count) b)) same ∙ sym (front image)
 
 -- a record stands where it stood as long as its blocks have their bytes
-kept_record : (image other : List ℕ) (place end : ℕ) (plain : PlainRecord) → place + blocks_of plain.pieces ≤ end → take (4096 * end) other ≡ take (4096 * end) image → StandsAt image place plain → StandsAt other place plain
+pub kept_record : (image other : List ℕ) (place end : ℕ) (plain : PlainRecord) → place + blocks_of plain.pieces ≤ end → take (4096 * end) other ≡ take (4096 * end) image → StandsAt image place plain → StandsAt other place plain
 kept_record image other place end plain within same stands =
     let count = 4096 * blocks_of plain.pieces in
     let here : take count (drop (4096 * place) other) ≡ spelling plain =

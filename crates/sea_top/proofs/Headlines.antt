@@ -5,6 +5,7 @@ use Rattle.std.specs.FinMap as map
 use Rattle.sea_top.specs.declared.plan.Asked.{Asked}
 use Rattle.sea_top.specs.declared.refusal.Refusal.{Refusal}
 use Rattle.sea_top.specs.declared.refusal.Refusal.TheVariants.{Usage, Script, DeviceFault, NoMemory, ReadFault}
+use Rattle.sea_top.specs.Crash.{IsUnwritten}
 use Rattle.sea_top.specs.Headline.{Comes, Headline, IsOver, IsRefusedFor, Prints, not_opened, served, refused, ran, whole, front}
 use Rattle.sea_top.specs.History.{none}
 use Rattle.sea_top.specs.Planning.{IsNoPlan}
@@ -32,10 +33,10 @@ none_ended text None status printed prints zero = refl
 none_ended text (Some refusal) status printed prints zero =
     absurd (refused_not text refusal status printed prints zero)
 
-module _ (input image : List ℕ) (blocks status : ℕ) (printed : List ℕ) (unread contents : Option (List ℕ)) (leaves : List ℕ → Type 0) where
+module _ (input image : List ℕ) (blocks status : ℕ) (printed : List ℕ) (unread contents : Option (List ℕ)) (leaves before : List ℕ → Type 0) (start now : ℕ) (since : ℕ → List ℕ → Type 0) where
   -- where nothing was served, only the refusal's line tells
-  pub headline_refused : (refusal : Refusal) → IsRefusedFor input refusal → Prints ending_line (Some refusal) status printed → Headline input image blocks status printed unread contents leaves
-  headline_refused refusal for prints = record {
+  pub headline_refused : (refusal : Refusal) → IsRefusedFor input refusal → IsUnwritten image contents leaves before (since start) → Prints ending_line (Some refusal) status printed → Headline input image blocks status printed unread contents leaves before start now since
+  headline_refused refusal for unwritten prints = record {
     plan = [];
     history = [];
     acknowledged = 0;
@@ -47,11 +48,12 @@ module _ (input image : List ℕ) (blocks status : ℕ) (printed : List ℕ) (un
     serves = record { numbered = λ c. refl; asked = λ c. omega arith };
     tells = refused refusal refl for prints;
     served = λ zero. absurd (refused_not ending_line refusal status printed prints zero);
+    crash = inl (refl, unwritten);
   }
 
-  pub headline_served : (plan : List Asked) → IsScript input plan → unread ≡ Some [] → Comes plan image blocks status printed contents leaves → Headline input image blocks status printed unread contents leaves
-  headline_served plan script read (not_opened refusal why prints) =
-      headline_refused refusal (free refusal why) prints
+  pub headline_served : (plan : List Asked) → IsScript input plan → unread ≡ Some [] → Comes plan image blocks status printed contents leaves before start now since → Headline input image blocks status printed unread contents leaves before start now since
+  headline_served plan script read (not_opened refusal why unwritten prints) =
+      headline_refused refusal (free refusal why) unwritten prints
     where
       free : (refusal : Refusal) → (refusal ≡ NoMemory) ⊎ (refusal ≡ DeviceFault) → IsRefusedFor input refusal
       free Usage why = tt
@@ -76,6 +78,7 @@ module _ (input image : List ℕ) (blocks status : ℕ) (printed : List ℕ) (un
         served = λ zero.
             let no_ending = none_ended _ ending status printed prints zero in
             record { script = script; read = read; over = over; all = serving.all no_ending; fully = serving.fully no_ending; kept = serving.kept no_ending };
+        crash = inr serving.crash;
       }
 
 -- why no plan was read is why the line is printed

@@ -70,14 +70,19 @@ pub none_served : (plan : List Asked) (objects : ObjectMap) (rest : ℕ) → Ser
 none_served plan objects rest =
     record { legal = none; room = room.none; clients = tt; numbers = refl; some = omega arith }
 
+-- the request that the next entry answers
+pub next_request : (plan : List Asked) (count : ℕ) (asked : Asked) → AsksFirst plan → slice_get plan count ≡ Some asked → slice_get (requests_of asked.client plan) (count + 1 - 1) ≡ Some asked.request
+next_request plan count asked asks at =
+    let client : asked.client ≡ 1 = AllByRecursion-get (λ a. a.client ≡ 1) plan count asked asks at in
+    let back : count + 1 - 1 ≡ count = omega arith in
+    ap (λ (n : ℕ). slice_get (requests_of n plan) (count + 1 - 1)) client ∙ ap (slice_get (requests_of 1 plan)) back ∙ ap (λ (r : List (List Op)). slice_get r count) (requests_of-first plan asks) ∙ slice_get-map (λ (a : Asked). a.request) plan count ∙ ap (option_map (λ (a : Asked). a.request)) at
+
 -- one request more is answered
 pub one_served : (plan : List Asked) (first objects : ObjectMap) (rest left : ℕ) (entries : List Entry) (asked : Asked) (reply : Reply) → AsksFirst plan → Served plan first objects rest left entries → length entries < length plan → slice_get plan (length entries) ≡ Some asked → IsReply reply asked.request objects → HasRoom reply (need_of asked.request) left → Served plan first (after_reply reply asked.request objects) rest (rest_after reply (need_of asked.request) left) (entries ++ record { client = asked.client; number = length entries + 1; reply = reply } ∷ [])
 one_served plan first objects rest left entries asked reply asks served some at is_reply has =
     let client : asked.client ≡ 1 = AllByRecursion-get (λ a. a.client ≡ 1) plan (length entries) asked asks at in
     let entry : Entry = record { client = asked.client; number = length entries + 1; reply = reply } in
-    let back : length entries + 1 - 1 ≡ length entries = omega arith in
-    let found : slice_get (requests_of asked.client plan) (length entries + 1 - 1) ≡ Some asked.request =
-    ap (λ (n : ℕ). slice_get (requests_of n plan) (length entries + 1 - 1)) client ∙ ap (slice_get (requests_of 1 plan)) back ∙ ap (λ (r : List (List Op)). slice_get r (length entries)) (requests_of-first plan asks) ∙ slice_get-map (λ (a : Asked). a.request) plan (length entries) ∙ ap (option_map (λ (a : Asked). a.request)) at in
+    let found = next_request plan (length entries) asked asks at in
     let numbers : map (λ (e : Entry). e.number) (entries ++ entry ∷ []) ≡ range_with_len 1 (length (entries ++ entry ∷ [])) =
     map-append (λ (e : Entry). e.number) entries (entry ∷ []) ∙ ap (λ (r : List ℕ). r ++ (length entries + 1) ∷ []) served.numbers ∙ numbered (length entries) ∙ ap (range_with_len 1) (sym (length-append entries (entry ∷ []))) in
     record {

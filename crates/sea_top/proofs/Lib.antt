@@ -1,10 +1,12 @@
 pub mod AskedPieces
 pub mod Batches
 pub mod Chains
+pub mod Crashes
 pub mod DigestField
 pub mod HeaderWritten
 pub mod Headlines
 pub mod Histories
+pub mod Moments
 pub mod Numbers
 pub mod Outcomes
 pub mod Overlays

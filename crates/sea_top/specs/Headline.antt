@@ -7,6 +7,7 @@ use Rattle.sea_top.specs.declared.history.Entry.{Entry}
 use Rattle.sea_top.specs.declared.record.PlainRecord.{PlainRecord}
 use Rattle.sea_top.specs.declared.refusal.Refusal.{Refusal}
 use Rattle.sea_top.specs.declared.refusal.Refusal.TheVariants.{Usage, Script, DeviceFault, NoMemory, ReadFault}
+use Rattle.sea_top.specs.Crash.{Crashes, IsUnwritten}
 use Rattle.sea_top.specs.History.{Legal, Serves, ServesFully}
 use Rattle.sea_top.specs.Refusal.{status_at, ending_line}
 use Rattle.sea_top.specs.Render.{entry_line, end_line}
@@ -33,7 +34,7 @@ pub data Prints (text : Option Refusal → List ℕ) (ending : Option Refusal) (
   front : (status ≡ 5) ⊎ (status ≡ 7) → (rest : List ℕ) → text ending ≡ printed ++ rest → Prints text ending status printed
 
 -- What a run serves of a plan over a device that held this image of so many blocks.
-pub record Serving (plan : List Asked) (image : List ℕ) (blocks : ℕ) (history : List Entry) (acknowledged : ℕ) (ending : Option Refusal) (contents : Option (List ℕ)) (leaves : List ℕ → Type 0) : Type 0 where
+pub record Serving (plan : List Asked) (image : List ℕ) (blocks : ℕ) (history : List Entry) (acknowledged : ℕ) (ending : Option Refusal) (contents : Option (List ℕ)) (leaves before : List ℕ → Type 0) (start now : ℕ) (since : ℕ → List ℕ → Type 0) : Type 0 where
   pub records : List PlainRecord
   pub trail : IsTrail image records
   pub last : ObjectMap
@@ -48,11 +49,13 @@ pub record Serving (plan : List Asked) (image : List ℕ) (blocks : ℕ) (histor
   pub all : ending ≡ None → acknowledged ≡ length history
   pub fully : ending ≡ None → ServesFully plan history
   pub kept : ending ≡ None → KeepsObjects contents leaves last
+  -- a crash leaves a front of the history, with each acknowledged entry once the run has returned
+  pub crash : Crashes image plan (objects_of records) history acknowledged contents leaves before start now since
 
 -- What came of a plan over a device: its opening was refused, or it was served; and what was printed.
-pub data Comes (plan : List Asked) (image : List ℕ) (blocks status : ℕ) (printed : List ℕ) (contents : Option (List ℕ)) (leaves : List ℕ → Type 0) : Type 0 where
-  not_opened : (refusal : Refusal) → (refusal ≡ NoMemory) ⊎ (refusal ≡ DeviceFault) → Prints ending_line (Some refusal) status printed → Comes plan image blocks status printed contents leaves
-  served : (history : List Entry) (acknowledged : ℕ) (ending : Option Refusal) → Serving plan image blocks history acknowledged ending contents leaves → Prints (run_text history acknowledged) ending status printed → Comes plan image blocks status printed contents leaves
+pub data Comes (plan : List Asked) (image : List ℕ) (blocks status : ℕ) (printed : List ℕ) (contents : Option (List ℕ)) (leaves before : List ℕ → Type 0) (start now : ℕ) (since : ℕ → List ℕ → Type 0) : Type 0 where
+  not_opened : (refusal : Refusal) → (refusal ≡ NoMemory) ⊎ (refusal ≡ DeviceFault) → IsUnwritten image contents leaves before (since start) → Prints ending_line (Some refusal) status printed → Comes plan image blocks status printed contents leaves before start now since
+  served : (history : List Entry) (acknowledged : ℕ) (ending : Option Refusal) → Serving plan image blocks history acknowledged ending contents leaves before start now since → Prints (run_text history acknowledged) ending status printed → Comes plan image blocks status printed contents leaves before start now since
 
 -- a line that is named as refused is the first of another form
 abbrev pub IsRefusedFor : List ℕ → Refusal → Type 0
@@ -86,7 +89,7 @@ pub record IsServed (input image : List ℕ) (blocks : ℕ) (plan : List Asked) 
   pub kept : KeepsObjects contents leaves last
 
 -- The headline of `steps`: there is a history of which all of this holds.
-pub record Headline (input image : List ℕ) (blocks status : ℕ) (printed : List ℕ) (unread contents : Option (List ℕ)) (leaves : List ℕ → Type 0) : Type 0 where
+pub record Headline (input image : List ℕ) (blocks status : ℕ) (printed : List ℕ) (unread contents : Option (List ℕ)) (leaves before : List ℕ → Type 0) (start now : ℕ) (since : ℕ → List ℕ → Type 0) : Type 0 where
   pub plan : List Asked
   pub history : List Entry
   pub acknowledged : ℕ
@@ -101,3 +104,5 @@ pub record Headline (input image : List ℕ) (blocks status : ℕ) (printed : Li
   pub tells : Tells input history acknowledged status printed
   -- with status 0 all is read, served, acknowledged and kept
   pub served : status ≡ 0 → IsServed input image blocks plan first history last acknowledged unread contents leaves
+  -- a crash leaves a prefix of it; or it is empty, and nothing was written
+  pub crash : ((history ≡ []) × IsUnwritten image contents leaves before (since start)) ⊎ Crashes image plan first history acknowledged contents leaves before start now since

@@ -1,5 +1,6 @@
 pub mod Batch
 pub mod Causes
+pub mod Crash
 pub mod Header
 pub mod Headline
 pub mod History

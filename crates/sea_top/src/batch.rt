@@ -3,6 +3,7 @@ ghost use Rattle.std.specs.Prelude.{◌≡◌, ◌+◌, ◌*◌, ◌≤◌, List
 ghost use Rattle.std.specs.Option.{option_map};
 ghost use Rattle.sea_device.specs.Device.{IsWholeBlocks, overwritten};
 ghost use Rattle.sea_top.specs.Batch.{batch};
+ghost use Rattle.sea_top.specs.Crash.{ChangesBehind};
 ghost use Rattle.sea_top.specs.Input.{Fails};
 
 use crate::Refusal;
@@ -22,6 +23,7 @@ pub fn write_behind<D: Device>(
     ensures written { OnOk result (D.contents device.new
         ≡ option_map (overwritten (4096 * place.0) (batch bytes.items rest)) (D.contents device.old)) }
     ensures stable { OnOk result ((c : List ℕ) → D.may_leave device.new c → IfSome (D.contents device.new) (λ b. c ≡ b)) }
+    ensures behind { ChangesBehind (4096 * place.0) D.contents D.may_leave D.clock D.left_since device.old device.new }
     ensures size { D.size device.new ≡ D.size device.old }
     ensures cause { Fails (D.faults device.old) (D.faults device.new) Refusal.DeviceFault result }
 {

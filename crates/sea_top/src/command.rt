@@ -28,7 +28,8 @@ pub fn tool<D: Device, I: Source, O: Sink>(
     ensures headline { (image text before : List ℕ) → IsSteps (map string_bytes words.now) → D.contents device ≡ Some image
         → I.remaining input.old ≡ Some text → O.taken out.old ≡ Some before
         → (printed : List ℕ) × (O.taken out.new ≡ Some (before ++ printed))
-        × Headline text image (D.size device) result.0.0 printed (I.remaining input.new) (D.contents result.1) (D.may_leave result.1) }
+        × Headline text image (D.size device) result.0.0 printed (I.remaining input.new) (D.contents result.1) (D.may_leave result.1)
+        (D.may_leave device) (D.clock device) (D.clock result.1) (D.left_since result.1) }
 {
     if is_steps(words) {
         steps(alloc, input, out, device)
@@ -60,7 +61,8 @@ fn steps<D: Device, I: Source, O: Sink>(
     ensures headline { (image text before : List ℕ) → D.contents device ≡ Some image
         → I.remaining input.old ≡ Some text → O.taken out.old ≡ Some before
         → (printed : List ℕ) × (O.taken out.new ≡ Some (before ++ printed))
-        × Headline text image (D.size device) result.0.0 printed (I.remaining input.new) (D.contents result.1) (D.may_leave result.1) }
+        × Headline text image (D.size device) result.0.0 printed (I.remaining input.new) (D.contents result.1) (D.may_leave result.1)
+        (D.may_leave device) (D.clock device) (D.clock result.1) (D.left_since result.1) }
 {
     match read_plan(alloc, input) {
         Err(refusal) => (print_refusal(alloc, out, refusal), device),
@@ -84,7 +86,8 @@ fn serve_and_print<D: Device, O: Sink>(
     ensures causes { ComesOf (D.faults device.old) (D.faults device.new) (O.faults out.old) (O.faults out.new) result.0 }
     ensures comes { (image before : List ℕ) → D.contents device.old ≡ Some image → O.taken out.old ≡ Some before
         → (printed : List ℕ) × (O.taken out.new ≡ Some (before ++ printed))
-        × Comes plan.now image (D.size device.old) result.0 printed (D.contents device.new) (D.may_leave device.new) }
+        × Comes plan.now image (D.size device.old) result.0 printed (D.contents device.new) (D.may_leave device.new)
+        (D.may_leave device.old) (D.clock device.old) (D.clock device.new) (D.left_since device.new) }
 {
     match serve(alloc, device, plan.items()) {
         Err(refusal) => print_refusal(alloc, out, refusal),

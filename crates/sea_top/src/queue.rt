@@ -33,6 +33,7 @@ impl Queue {
     ghost use Rattle.sea_top.specs.Record.{IsPiece, blocks_of};
     ghost use Rattle.sea_top.specs.Trail.{IsTrail};
     ghost use Rattle.sea_top.specs.Queue.{Start, Waits, Keeps, behind};
+    ghost use Rattle.sea_top.specs.Crash.{ChangesBehind};
     ghost use Rattle.sea_top.specs.Input.{Fails};
 
     /// No record waits.
@@ -61,6 +62,7 @@ impl Queue {
         requires room { need ≤ self.old.rest }
         ensures ok { (start : Start) (news : List PlainRecord) → Waits start self.old news
             → OnOk result ((plain : PlainRecord) × (plain.pieces ≡ pieces) × Waits start self.new (news ++ plain ∷ [])) }
+        ensures place { self.new.place ≡ self.old.place }
         ensures rest { OnOk result (self.new.rest + need ≡ self.old.rest) }
         ensures err { (start : Start) (news : List PlainRecord) → Waits start self.old news → OnErr result (Waits start self.new news) }
     {
@@ -84,6 +86,8 @@ impl Queue {
             → IsTrail image records → ((c : List ℕ) → D.may_leave device.old c → c ≡ image)
             → Waits (behind records (D.size device.old)) self news
             → OnOk result (Keeps (records ++ news) (D.contents device.new) (D.may_leave device.new)) }
+        // A crash keeps what stands before the records.
+        ensures behind { ChangesBehind (4096 * self.place.0) D.contents D.may_leave D.clock D.left_since device.old device.new }
         ensures size { D.size device.new ≡ D.size device.old }
         ensures cause { Fails (D.faults device.old) (D.faults device.new) Refusal.DeviceFault result }
     {

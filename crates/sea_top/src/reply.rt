@@ -1,6 +1,7 @@
 //! Answering one request.
-ghost use Rattle.std.specs.Prelude.{◌≡◌, ◌++◌, List, IfOk};
+ghost use Rattle.std.specs.Prelude.{◌≡◌, ◌++◌, List, map, IfOk};
 ghost use Rattle.sea_top.specs.declared.record.PlainRecord.{PlainRecord};
+ghost use Rattle.sea_top.specs.Crash.{log_of};
 ghost use Rattle.sea_top.specs.History.{IsReply, after_reply};
 ghost use Rattle.sea_top.specs.Pieces.{need_of};
 ghost use Rattle.sea_top.specs.Room.{HasRoom, rest_after};
@@ -27,7 +28,9 @@ pub fn reply_to(
     ensures rest { IfOk result (λ reply. queue.new.rest ≡ rest_after reply (need_of request.now) queue.old.rest) }
     ensures queued { (start : Start) (news : List PlainRecord) → Waits start queue.old news
         → IfOk result (λ reply. (more : List PlainRecord) × Waits start queue.new (news ++ more)
-        × (objects.new ≡ after_pieces (pieces_of more) objects.old)) }
+        × (objects.new ≡ after_pieces (pieces_of more) objects.old)
+        × (map (λ plain. plain.pieces) more ≡ log_of reply request.now)) }
+    ensures place { queue.new.place ≡ queue.old.place }
 {
     let pieces = pieces_asked(alloc, request.ops())?;
     if pieces.items().is_empty() {

@@ -1,6 +1,7 @@
 //! Serving a plan over a device.
-ghost use Rattle.std.specs.Prelude.{◌≡◌, ◌⊎◌, ◌≤◌, ◌+◌, ◌*◌, ◌++◌, ℕ, List, length, vec_len, Some, IfOk, OnOk, IsOk, IsSome, IfNone, IfSome, MatchOption};
+ghost use Rattle.std.specs.Prelude.{◌≡◌, ◌⊎◌, ◌≤◌, ◌+◌, ◌*◌, ◌++◌, ℕ, List, length, vec_len, Some, IfOk, OnOk, OnErr, IsOk, IsSome, IfNone, IfSome, MatchOption};
 ghost use Rattle.sea_device.specs.Device.{FaultsRose};
+ghost use Rattle.sea_top.specs.Crash.{ChangesBehind, IsUnwritten};
 ghost use Rattle.sea_top.specs.Headline.{Serving};
 ghost use Rattle.sea_top.specs.Input.{Fails};
 ghost use Rattle.sea_top.specs.Opening.{refusal_of};
@@ -33,7 +34,12 @@ pub fn serve<D: Device>(alloc: Global, device: &mut D, plan: &[Asked]) -> Result
     requires few { length plan.now ≤ 10000 }
     ensures serves { (image : List ℕ) → D.contents device.old ≡ Some image
         → IfOk result (λ run. Serving plan.now image (D.size device.old) run.history run.acknowledged run.ending
-        (D.contents device.new) (D.may_leave device.new)) }
+        (D.contents device.new) (D.may_leave device.new) (D.may_leave device.old)
+        (D.clock device.old) (D.clock device.new) (D.left_since device.new)) }
+    // Where the opening is refused nothing is written.
+    ensures refused { (image : List ℕ) → D.contents device.old ≡ Some image
+        → OnErr result (IsUnwritten image (D.contents device.new) (D.may_leave device.new) (D.may_leave device.old)
+        (D.left_since device.new (D.clock device.old))) }
     ensures within { IfOk result (λ run. run.acknowledged ≤ length run.history) }
     ensures opening { Fails (D.faults device.old) (D.faults device.new) Refusal.DeviceFault result }
     ensures ending { IfOk result (λ run. MatchOption run.ending (run.acknowledged ≡ length run.history)
@@ -82,6 +88,7 @@ fn write_out<D: Device>(
         → IsTrail image records → ((c : List ℕ) → D.may_leave device.old c → c ≡ image)
         → Waits (behind records (D.size device.old)) queue news
         → IfNone result (Keeps (records ++ news) (D.contents device.new) (D.may_leave device.new)) }
+    ensures behind { ChangesBehind (4096 * queue.place.0) D.contents D.may_leave D.clock D.left_since device.old device.new }
     ensures served { IfNone result (IsOk served) }
     ensures later { D.faults device.old ≤ D.faults device.new }
     ensures cause { IfSome result (λ refusal. (refusal ≡ Refusal.NoMemory)

@@ -1,6 +1,10 @@
 //! Serving a plan over the objects.
-ghost use Rattle.std.specs.Prelude.{◌≡◌, ◌≤◌, [], length, OnOk, IsOk};
+ghost use Rattle.std.specs.Prelude.{◌≡◌, ◌≤◌, List, [], length, OnOk, IsOk};
 ghost use Rattle.sea_object.specs.Objects.{ObjectMap};
+ghost use Rattle.sea_top.specs.Crash.{IsLog};
+ghost use Rattle.sea_top.specs.Queue.{Start, Waits};
+ghost use Rattle.sea_top.specs.Trail.{Linked};
+ghost use Rattle.sea_top.specs.declared.record.PlainRecord.{PlainRecord};
 ghost use Rattle.sea_top.specs.Serving.{AsksFirst, Served, Queues};
 
 use crate::queue::Queue;
@@ -26,6 +30,9 @@ pub fn serve_all(
     ensures all { OnOk result (Served plan.now objects.old objects.new queue.old.rest queue.new.rest entries.new
         × (length entries.new ≡ length plan.now)) }
     ensures queued { OnOk result (Queues objects.old objects.new queue.old queue.new) }
+    ensures logged { (start : Start) → Waits start queue.old [] → (news : List PlainRecord)
+        × Linked start.commit start.previous news × IsLog plan.now objects.old entries.new news }
+    ensures place { queue.new.place ≡ queue.old.place }
 {
     for asked in plan {
         let number = entries.items().len() as u32 + 1;

@@ -1,9 +1,10 @@
 use crate::*;
-use sea_base::{Data, Name, Nths};
+use sea_base::{Block, Data, Name, Nths, Paddr};
 use sea_device::{
-    Device, Fails, MemDevice, MemSink, MemSource, Sink, Source, SteadyDevice, SteadySource,
+    Chosen, Device, Fails, MemDevice, MemSink, MemSource, Sink, Source, SteadyDevice, SteadySource,
 };
 use std::alloc::Global;
+use std::process::Abort;
 use std::test::Fail;
 
 const HELLO: &[u8] = b"1 write a 0 x68656c6c6f ; read a 0 5\n";
@@ -104,9 +105,9 @@ fn a_full_device_answers_so_and_keeps_what_it_has(rt: HostRuntime) -> Result<(),
         text.as_slice(),
         b"1 1 done -\n1 2 full 1 0 0\nend 2 0\n".as_slice()
     );
-    let (status, _, text) = steps(alloc, device, b"1 read a 0 9\n1 touch a")?;
+    let (status, _, text) = steps(alloc, device, b"# a\n1 read a 0 9\n1 touch a")?;
     assert_eq!(rt; status.0, 2);
-    assert_eq!(rt; text.as_slice(), b"script 2 NotBuilt\n".as_slice());
+    assert_eq!(rt; text.as_slice(), b"script 3 NotBuilt\n".as_slice());
     let none = SteadyDevice::new(alloc, 0)?;
     let (status, _, text) = steps(alloc, none, b"1 write a 0 x41")?;
     assert_eq!(rt; status.0, 0);
@@ -168,5 +169,92 @@ fn faults_of_device_source_and_sink_are_told(rt: HostRuntime) -> Result<(), Fail
     assert_eq!(rt; status.0, 7);
     assert!(rt; out.taken().is_empty());
     assert!(rt; bytes_of_a(alloc, &mut device)?.is_some());
+    Ok(())
+}
+
+// Each row: which read, write and sync of the device fails, the status, and what is printed.
+const FAULTS: [(u64, u64, u64, u8, &[u8]); 8] = [
+    (1, 0, 0, 3, b"device fault\n"),
+    (2, 0, 0, 0, THREE_TEXT),
+    (0, 1, 0, 3, b"end 0 0\ndevice fault\n"),
+    (0, 2, 0, 0, THREE_TEXT),
+    (0, 0, 1, 3, b"device fault\n"),
+    (0, 0, 2, 3, b"end 0 0\ndevice fault\n"),
+    (0, 0, 3, 0, THREE_TEXT),
+    (0, 0, 0, 0, THREE_TEXT),
+];
+
+const THREE: &[u8] = b"1 write a 0 x41\n1 write b 0 x42\n1 read a 0 1\n";
+
+const THREE_TEXT: &[u8] = b"1 1 done -\n1 2 done -\n1 3 done x41\nend 3 0\n";
+
+#[test]
+fn each_call_of_the_device_fails_once(rt: HostRuntime) -> Result<(), Fail> {
+    let alloc = rt.alloc();
+    for (read, write, sync, want, said) in FAULTS {
+        let fails = Fails {
+            reads: listed(alloc, read)?,
+            writes: listed(alloc, write)?,
+            syncs: listed(alloc, sync)?,
+        };
+        let device = MemDevice::new(alloc, 9, 9, 65_536, fails)?;
+        let (status, device, text) = steps(alloc, device, THREE)?;
+        assert_eq!(rt; status.0, want);
+        assert_eq!(rt; text.as_slice(), said);
+        assert_eq!(rt; device.faults(), if want == 0 { 0 } else { 1 });
+        let mut device = device
+            .refit(9, 65_536, Fails::none(alloc))
+            .ok()
+            .ok_or("ample memory")?;
+        let written = bytes_of_a(alloc, &mut device)?.is_some();
+        assert_eq!(rt; written, want == 0 || sync == 2);
+    }
+    Ok(())
+}
+
+// What a crash leaves at a moment, where no unsynced block is kept.
+fn crashed_bare(
+    rt: &impl Abort,
+    alloc: Global,
+    device: &MemDevice,
+    moment: u64,
+) -> Result<MemDevice, Fail> {
+    assert!(rt; moment <= device.clock());
+    Ok(device.crash(moment, &Chosen::new(alloc))?)
+}
+
+// What a crash leaves at a moment, where the first block alone is kept.
+fn crashed_with_first(
+    rt: &impl Abort,
+    alloc: Global,
+    device: &MemDevice,
+    moment: u64,
+) -> Result<MemDevice, Fail> {
+    assert!(rt; moment <= device.clock());
+    assert!(rt; device.bytes().len() >= 4096);
+    let first = Paddr(0);
+    assert!(rt; device.is_unsynced(moment, first));
+    let mut chosen = Chosen::new(alloc);
+    chosen.push((first, Block::new(alloc, &device.bytes()[..4096])?))?;
+    Ok(device.crash(moment, &chosen)?)
+}
+
+#[test]
+fn a_crash_before_the_last_sync_leaves_hello_or_no_object(rt: HostRuntime) -> Result<(), Fail> {
+    let alloc = rt.alloc();
+    let device = MemDevice::new(alloc, 2049, 3, 8192, Fails::none(alloc))?;
+    let (status, device, text) = steps(alloc, device, HELLO)?;
+    assert_eq!(rt; status.0, 0);
+    assert_eq!(rt; text.as_slice(), HELLO_TEXT);
+    assert_eq!(rt; device.clock(), 3);
+
+    let mut lost = crashed_bare(&rt, alloc, &device, 2)?;
+    assert!(rt; bytes_of_a(alloc, &mut lost)?.is_none());
+    let mut kept = crashed_with_first(&rt, alloc, &device, 2)?;
+    let bytes = bytes_of_a(alloc, &mut kept)?.ok_or("an object a")?;
+    assert_eq!(rt; bytes.as_slice(), b"hello".as_slice());
+    let mut synced = crashed_bare(&rt, alloc, &device, 3)?;
+    let bytes = bytes_of_a(alloc, &mut synced)?.ok_or("an object a")?;
+    assert_eq!(rt; bytes.as_slice(), b"hello".as_slice());
     Ok(())
 }
