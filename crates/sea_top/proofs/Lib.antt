@@ -21,6 +21,7 @@ pub mod ReadingOn
 pub mod Readings
 pub mod RecordBytes
 pub mod RecordLengths
+pub mod Rendering
 pub mod Requests
 pub mod Runs
 pub mod SameHeaders

@@ -22,7 +22,7 @@ abbrev all_above : List ℕ → Bool
 all_above [] = true
 all_above (b ∷ bytes) = nat_le 33 b && all_above bytes
 
-word_from_test : (word : List ℕ) → all_above word ≡ true → IsWord word
+pub word_from_test : (word : List ℕ) → all_above word ≡ true → IsWord word
 word_from_test [] test = All-nil (λ b. 33 ≤ b)
 word_from_test (b ∷ word) test =
     let parts = and_parts (nat_le 33 b) (all_above word) test in
@@ -55,7 +55,7 @@ flat_word spelled each (b ∷ bytes) small =
 name_word : (name : List ℕ) → AreBytes name → IsWord (name_text name)
 name_word name small = subst IsWord (sym (name_front (name_text name) name refl)) (flat_word byte_text byte_word name small)
 
-data_word : (bytes : List ℕ) → AreBytes bytes → IsWord (data_text bytes)
+pub data_word : (bytes : List ℕ) → AreBytes bytes → IsWord (data_text bytes)
 data_word bytes small =
     subst IsWord (sym (data_front (data_text bytes) bytes refl))
     (All-cons (λ b. 33 ≤ b) 120 (flat_map pair_text bytes) (omega arith) (flat_word pair_text pair_word bytes small))

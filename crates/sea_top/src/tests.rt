@@ -231,11 +231,12 @@ fn crashed_with_first(
     moment: u64,
 ) -> Result<MemDevice, Fail> {
     assert!(rt; moment <= device.clock());
-    assert!(rt; device.bytes().len() >= 4096);
+    let bytes = device.bytes();
+    assert!(rt; bytes.len() >= 4096);
     let first = Paddr(0);
     assert!(rt; device.is_unsynced(moment, first));
     let mut chosen = Chosen::new(alloc);
-    chosen.push((first, Block::new(alloc, &device.bytes()[..4096])?))?;
+    chosen.push((first, Block::new(alloc, &bytes[..4096])?))?;
     Ok(device.crash(moment, &chosen)?)
 }
 
