@@ -162,6 +162,7 @@ fn faults_of_device_source_and_sink_are_told(rt: HostRuntime) -> Result<(), Fail
     let (status, device, text) = steps_over(alloc, SteadyDevice::new(alloc, 9)?, &mut input)?;
     assert_eq!(rt; status.0, 6);
     assert_eq!(rt; text.as_slice(), b"read fault\n".as_slice());
+    assert!(rt; device.bytes().iter().all(|b| *b == 0));
 
     let mut out = MemSink::new(alloc, 64, listed(alloc, 1)?)?;
     let mut input = MemSource::new(Data::new(alloc, HELLO)?, 7, Nths::new(alloc));
