@@ -9,6 +9,7 @@ use borrow.Rule.Slice.PartMut.{put_mid}
 use Rattle.byteorder.specs.Endian.{big_from, big_bytes, big_number}
 use Rattle.byteorder.specs.Numbers.{big_from-cons, big_from-lt, length-bytes_high_first, big_number-reads_back}
 use Rattle.sea_base.specs.Field.{big_endian}
+use Rattle.sea_base.proofs.Slices.{same_parts}
 
 abbrev pub AreBytes : List ℕ → Type 0
 AreBytes bytes = (i : ℕ) → get_or bytes i 0 < 256
@@ -113,3 +114,14 @@ put_field n at x bytes written within e =
     none_left zero (x ∷ xs) h = absurd (omega arith)
     none_left (suc n) [] h = refl
     none_left (suc n) (x ∷ xs) h = none_left n xs (omega arith)
+
+-- a byte is its own number
+pub one_byte : (n : ℕ) → n < 256 → n ∷ [] ≡ big_endian 1 n
+unfolding big_endian
+one_byte n below = ap (λ (b : ℕ). b ∷ []) (omega arith)
+
+-- fields of one width with the same bytes hold one number, and the rests are the same
+pub same_field : (n x y : ℕ) (rs ss : List ℕ) → x < 256 ^ n → y < 256 ^ n → big_endian n x ++ rs ≡ big_endian n y ++ ss → (x ≡ y) × (rs ≡ ss)
+same_field n x y rs ss fx fy e =
+    let parts = same_parts (big_endian n x) (big_endian n y) rs ss (length-big_endian n x ∙ sym (length-big_endian n y)) e in
+    (big_endian-injective n x y fx fy parts.0, parts.1)

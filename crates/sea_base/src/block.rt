@@ -1,7 +1,7 @@
 //! Blocks of 4,096 bytes.
-ghost use Rattle.std.specs.Prelude.{◌≡◌, length, IfOk};
+ghost use Rattle.std.specs.Prelude.{◌≡◌, ◌≤◌, length, IfOk, slice_range};
 
-use crate::{Duplicate, NoMemory};
+use crate::{Data, Duplicate, NoMemory};
 use bytes::Bytes;
 use std::alloc::Global;
 use std::marker::Model;
@@ -33,6 +33,25 @@ impl Block {
     {
         let bytes = Bytes::copy_from_slice(alloc, bytes)?;
         Ok(Block { bytes })
+    }
+
+    /// The block of the bytes of a vector, of which none is copied.
+    pub fn from_vec(bytes: Vec<u8>) -> Result<Block, NoMemory>
+        requires { length bytes.items ≡ 4096 }
+        ensures { IfOk result (λ block. block ≡ bytes.items) }
+    {
+        let bytes = Bytes::from_vec(bytes)?;
+        Ok(Block { bytes })
+    }
+
+    /// The bytes between two places, which the block shares.
+    pub fn part(&self, from: usize, to: usize) -> Result<Data, NoMemory>
+        requires order { from ≤ to }
+        requires within { to ≤ 4096 }
+        ensures { IfOk result (λ part. part ≡ slice_range self.now from to) }
+    {
+        let bytes = self.bytes.slice(from..to)?;
+        Ok(Data::sharing(bytes))
     }
 
     /// An equal block, which shares the bytes.

@@ -39,6 +39,13 @@ impl Data {
         Ok(Data { bytes })
     }
 
+    /// The byte string of bytes that are shared already.
+    pub(crate) fn sharing(bytes: Bytes) -> Data
+        ensures { result ≡ bytes }
+    {
+        Data { bytes }
+    }
+
     /// The bytes, in order.
     pub fn bytes(&self) -> &[u8]
         ensures { result.now ≡ self.now }

@@ -1,8 +1,15 @@
 //! Big-endian numbers in fields of byte strings.
-ghost use Rattle.std.specs.Prelude.{◌≡◌, ℕ, ◌+◌, ◌≤◌, ◌<◌, ◌^◌, ◌++◌, length, take, drop, slice_range};
+ghost use Rattle.std.specs.Prelude.{◌≡◌, ℕ, ◌+◌, ◌≤◌, ◌<◌, ◌^◌, ◌++◌, ◌↔◌, length, take, drop, replicate, slice_range, IsTrue};
 ghost use Rattle.sea_base.specs.Field.{big_endian};
 
 use byteorder::{BigEndian, ByteOrder};
+
+/// Whether each byte is zero.
+pub fn is_zero(bytes: &[u8]) -> bool
+    ensures { IsTrue result ↔ (bytes.now ≡ replicate (length bytes.now) 0) }
+{
+    bytes.iter().all(|b| *b == 0)
+}
 
 /// The number in the 2 bytes from `at` on.
 pub fn u16_at(bytes: &[u8], at: usize) -> u16

@@ -1,5 +1,5 @@
 //! Names of objects, and keys of attributes and omaps.
-ghost use Rattle.std.specs.Prelude.{◌≡◌, ◌≤◌, ◌↔◌, length, IfOk, IsErrOf, IsTrue};
+ghost use Rattle.std.specs.Prelude.{◌≡◌, ◌≤◌, ◌↔◌, length, IfOk, IfSome, IfNone, IsErrOf, IsTrue};
 ghost use Rattle.sea_base.specs.Name.{IsName};
 
 use crate::{Data, Duplicate, NoMemory};
@@ -52,12 +52,25 @@ impl Name {
     pub fn new(alloc: Global, bytes: &[u8]) -> Result<Name, NameFault>
         ensures ok { IfOk result (λ name. (name ≡ bytes.now) × IsName name) }
         ensures bad { IsErrOf result NameFault.BadName → IsName bytes.now → ⊥ }
+        ensures memory { IsErrOf result NameFault.NoMemory → IsName bytes.now }
     {
         if !is_name(bytes) {
             return Err(NameFault::BadName);
         }
         let bytes = Data::new(alloc, bytes).map_err(|_| NameFault::NoMemory)?;
         Ok(Name { bytes })
+    }
+
+    /// The name of a byte string, which is shared, if it makes one.
+    pub fn from_data(bytes: Data) -> Option<Name>
+        ensures some { IfSome result (λ name. (name ≡ bytes) × IsName name) }
+        ensures none { IfNone result (IsName bytes → ⊥) }
+    {
+        if is_name(bytes.bytes()) {
+            Some(Name { bytes })
+        } else {
+            None
+        }
     }
 
     /// The bytes, of which there are 1 to 64.

@@ -1,4 +1,8 @@
-//! Places of blocks and numbers of commits.
+//! Addresses, places of blocks, and numbers of commits.
+
+/// A logical address. What stands there keeps it, wherever its block lies.
+#[derive(Clone, Copy, Debug, PartialEq, Eq, PartialOrd, Ord)]
+pub struct Laddr(pub u64);
 
 /// The place of a block on a device, counted from 0.
 #[derive(Clone, Copy, Debug, PartialEq, Eq, PartialOrd, Ord)]

@@ -1,7 +1,8 @@
 //! The one list type of the project.
-ghost use Rattle.std.specs.Prelude.{◌≡◌, [], ◌∷◌, ◌++◌, length, IfOk, OnOk, OnErr, take};
+ghost use Rattle.std.specs.Prelude.{◌≡◌, [], ◌∷◌, ◌++◌, IfOk, OnOk, OnErr};
+ghost use Rattle.std.specs.Cmp.Lexicographic.{pointwise, lists_per};
 
-use crate::{Duplicate, NoMemory};
+use crate::{Data, Duplicate, Key, Laddr, Name, NoMemory};
 use std::alloc::Global;
 use std::marker::Model;
 
@@ -13,6 +14,15 @@ pub struct Sequence<T> {
 
 /// Numbers of calls, counted from 1.
 pub type Nths = Sequence<u64>;
+
+/// Logical addresses.
+pub type Addresses = Sequence<Laddr>;
+
+/// Names.
+pub type Names = Sequence<Name>;
+
+/// Keys with their values.
+pub type Pairs = Sequence<(Key, Data)>;
 
 impl<T> Model for Sequence<T> {
     ghost use Rattle.std.specs.Prelude.{List};
@@ -66,6 +76,16 @@ impl<T: Drop> Sequence<T> {
     {
         self.items.push(item)?;
         Ok(())
+    }
+}
+
+impl<T: PartialEq> PartialEq for Sequence<T> {
+    ghost eq = { pointwise T.eq };
+
+    ghost laws = { lists_per T.laws };
+
+    fn eq(&self, other: &Self) -> bool {
+        self.items.as_slice() == other.items.as_slice()
     }
 }
 

@@ -1,3 +1,4 @@
 pub mod Crashes
+pub mod Examples
 pub mod Grows
 pub mod Torn

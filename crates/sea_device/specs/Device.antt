@@ -1,5 +1,6 @@
 -- What the calls of a device do to its bytes, and to what a crash may leave.
-use Rattle.std.specs.Prelude.{◌≡◌, ◌⊎◌, ◌↔◌, Bool, ℕ, ◌+◌, ◌-◌, ◌*◌, ◌%◌, ◌^◌, ◌<◌, ◌≤◌, List, ◌++◌, length, take, drop, slice_index, Option, Some, None, Result, OnErr}
+use Rattle.std.specs.Prelude.{◌≡◌, ◌⊎◌, ◌↔◌, Bool, ℕ, ◌+◌, ◌*◌, ◌%◌, ◌<◌, ◌≤◌, List, ◌++◌, length, take, drop, slice_index, Option, Some, None, Result, OnErr}
+pub use Rattle.sea_base.specs.Faults.{FaultsRose}
 
 -- the bytes of so many blocks
 pub record IsImage (blocks : ℕ) (bytes : List ℕ) : Type 0 where
@@ -45,10 +46,6 @@ pub record Elapses (before now : ℕ) (past since : ℕ → List ℕ → Type 0)
   pub later : before ≤ now
   pub nothing_else : (t : ℕ) (c : List ℕ) → t ≤ before → since t c → past t c ⊎ may_leave c
   pub keeps : (t : ℕ) (c : List ℕ) → t ≤ before → past t c → since t c
-
--- a count of faults rose, or stands at its last value
-abbrev pub FaultsRose : ℕ → ℕ → Type 0
-FaultsRose before now = (before < now) ⊎ (now ≡ 2 ^ 64 - 1)
 
 -- a call fails only where the count of faults rose, and the count never falls
 pub record HasCause {T E : Type 0} (before now : ℕ) (result : Result T E) : Type 0 where

@@ -1,5 +1,4 @@
 pub mod Device
-pub mod Failures
 pub mod Images
 pub mod Laws
 pub mod Memory

@@ -6,7 +6,7 @@ use Rattle.sea_device.specs.declared.memory.Fails.{Fails}
 use Rattle.sea_device.specs.declared.memory.MemDevice.{MemDevice}
 use Rattle.sea_device.specs.declared.record.Room.{Room}
 use Rattle.sea_device.specs.Device.{overwritten}
-use Rattle.sea_device.specs.Failures.{IsFresh}
+use Rattle.sea_base.specs.Failures.{IsFresh}
 use Rattle.sea_device.specs.Past.{IsNew, MayLeaveNow}
 
 -- nothing fails

@@ -2,6 +2,7 @@
 ghost use Rattle.std.specs.Prelude.{◌≡◌, ℕ, ◌+◌, ◌*◌, ◌≤◌, ◌<◌, List, Bool, IsTrue, Option, Some, length, slice_range, OnOk, OnErr, IfSome};
 ghost use Rattle.std.specs.Option.{option_map};
 ghost use Rattle.sea_device.specs.Device.{IsImage, IsWholeBlocks, overwritten, Torn, ChangesWithin, IsSame, Follows, Reaches, Elapses, HasCause};
+ghost use Rattle.sea_base.specs.Failures.{CountsFault};
 
 use sea_base::Paddr;
 use thiserror::Error;
@@ -50,6 +51,7 @@ pub trait Device {
         ensures told { tells_images self.new ≡ tells_images self.old }
         ensures images { IsSame (may_leave self.old) (may_leave self.new) }
         ensures time { Elapses (clock self.old) (clock self.new) (left_since self.old) (left_since self.new) (may_leave self.new) }
+        ensures faults { CountsFault (faults self.old) (faults self.new) result }
         ensures cause { HasCause (faults self.old) (faults self.new) result };
 
     /// Replaces the bytes from block `at` on. After a failed write the bytes of its range may be
@@ -68,6 +70,7 @@ pub trait Device {
         ensures unwritten { (c : List ℕ) → may_leave self.old c → may_leave self.new c }
 
         ensures time { Elapses (clock self.old) (clock self.new) (left_since self.old) (left_since self.new) (may_leave self.new) }
+        ensures faults { CountsFault (faults self.old) (faults self.new) result }
         ensures cause { HasCause (faults self.old) (faults self.new) result };
 
     /// Makes the bytes now stable: a crash leaves them and nothing else. After a failed sync nothing
@@ -80,6 +83,7 @@ pub trait Device {
         ensures images { (c : List ℕ) → may_leave self.new c → may_leave self.old c }
         ensures unstable { OnErr result (IsSame (may_leave self.old) (may_leave self.new)) }
         ensures time { Elapses (clock self.old) (clock self.new) (left_since self.old) (left_since self.new) (may_leave self.new) }
+        ensures faults { CountsFault (faults self.old) (faults self.new) result }
         ensures cause { HasCause (faults self.old) (faults self.new) result };
 
     /// The bytes now are those of all blocks.

@@ -2,16 +2,16 @@
 ghost use Rattle.std.specs.Prelude.{◌≡◌, ◌⊎◌, ◌↔◌, ℕ, ◌+◌, ◌*◌, ◌<◌, ◌≤◌, List, Some, true, IsTrue, length, slice_range, replicate, IfOk, OnOk, OnErr, IfErr, IsErr};
 ghost use Rattle.std.specs.List.{All};
 ghost use Rattle.sea_device.specs.Device.{IsWholeBlocks, overwritten, Torn, Follows, Reaches, Elapses, HasCause};
-ghost use Rattle.sea_device.specs.Failures.{CountsFault, IsDue, counted};
+ghost use Rattle.sea_base.specs.Failures.{CountsFault, IsDue, counted};
 ghost use Rattle.sea_device.specs.Laws.{whole_law, left_image, now_law, counts_law, only_law};
 ghost use Rattle.sea_device.specs.Moments.{Wrote, Synced};
 ghost use Rattle.sea_device.specs.Past.{now_of, bytes_of, stable_of, MayLeaveOf, MayLeaveNow, LeftSinceOf, IsUnsyncedOf, TakesSync, TakesWrite, IsNew, GoesOn};
 
-use crate::failures::{Failures, fault};
+use crate::failures::fault;
 use crate::overwrite::overwrite;
 use crate::record::{Record, Room};
 use crate::{Device, Failed};
-use sea_base::{BLOCK_BYTES, Block, NoMemory, Nths, Paddr, Sequence};
+use sea_base::{BLOCK_BYTES, Block, Failures, NoMemory, Nths, Paddr, Sequence};
 use std::alloc::Global;
 
 /// Which reads, writes and syncs will fail, counted from 1.

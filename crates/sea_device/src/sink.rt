@@ -1,12 +1,12 @@
 //! The sink in memory.
 ghost use Rattle.std.specs.Prelude.{◌≡◌, ◌↔◌, ◌⊎◌, ◌-◌, ◌<◌, ◌≤◌, ◌++◌, [], Some, length, take, min, IfOk, OnErr, IsErr, vec_capacity};
 ghost use Rattle.sea_device.specs.Device.{HasCause};
-ghost use Rattle.sea_device.specs.Failures.{CountsFault, IsDue, counted, IsFresh};
+ghost use Rattle.sea_base.specs.Failures.{CountsFault, IsDue, counted, IsFresh};
 
 use crate::append::append;
-use crate::failures::{Failures, fault};
+use crate::failures::fault;
 use crate::{Failed, Sink};
-use sea_base::{NoMemory, Nths};
+use sea_base::{Failures, NoMemory, Nths};
 use std::alloc::Global;
 
 /// A sink with room for so many bytes, of which the listed puts fail.

@@ -2,11 +2,11 @@
 ghost use Rattle.std.specs.Prelude.{◌≡◌, ◌↔◌, ◌-◌, ◌<◌, ◌≤◌, Some, length, drop, min, IfOk, OnErr, IsErr};
 ghost use Rattle.sea_device.specs.Device.{HasCause};
 ghost use Rattle.sea_device.specs.Stream.{Hands};
-ghost use Rattle.sea_device.specs.Failures.{CountsFault, IsDue, counted, IsFresh};
+ghost use Rattle.sea_base.specs.Failures.{CountsFault, IsDue, counted, IsFresh};
 
-use crate::failures::{Failures, fault};
+use crate::failures::fault;
 use crate::{Failed, Source};
-use sea_base::{Data, Nths};
+use sea_base::{Data, Failures, Nths};
 
 /// A source of these bytes. None of its calls fails.
 #[derive(Debug, Drop)]

@@ -2,6 +2,7 @@
 ghost use Rattle.std.specs.Prelude.{◌≡◌, ℕ, ◌≤◌, ◌<◌, ◌++◌, List, Option, length, take, IfOk, OnErr};
 ghost use Rattle.std.specs.Option.{option_map};
 ghost use Rattle.sea_device.specs.Device.{HasCause};
+ghost use Rattle.sea_base.specs.Failures.{CountsFault};
 ghost use Rattle.sea_device.specs.Stream.{Hands};
 
 use crate::Failed;
@@ -20,6 +21,7 @@ pub trait Source {
         ensures count { IfOk result (λ n. n ≤ length into.old) }
         ensures bytes { IfOk result (λ n. Hands n into.new (remaining self.old) (remaining self.new)) }
         ensures failed { OnErr result (remaining self.new ≡ remaining self.old) }
+        ensures faults { CountsFault (faults self.old) (faults self.new) result }
         ensures cause { HasCause (faults self.old) (faults self.new) result };
 }
 
@@ -37,5 +39,6 @@ pub trait Sink {
         ensures count { IfOk result (λ n. (1 ≤ n) × (n ≤ length bytes.now)) }
         ensures bytes { IfOk result (λ n. taken self.new ≡ option_map (λ t. t ++ take n bytes.now) (taken self.old)) }
         ensures failed { OnErr result (taken self.new ≡ taken self.old) }
+        ensures faults { CountsFault (faults self.old) (faults self.new) result }
         ensures cause { HasCause (faults self.old) (faults self.new) result };
 }

@@ -1,5 +1,6 @@
+pub mod Examples
 pub mod Lookups
+pub mod Making
 pub mod Scan
 pub mod Undo
 pub mod Writes
-pub mod Making

@@ -1,7 +1,5 @@
 -- An object that is made where there is none.
-use Rattle.std.proofs.Common.{◌≡◌, Bool, true, false, is_some, List, ℕ, Option, Some, None, unwrap_or, refl, sym, ap, ◌∙◌}
-use Rattle.std.specs.Ordering.{nat_cmp}
-use Rattle.std.specs.Cmp.Lexicographic.{slice_cmp}
+use Rattle.std.proofs.Common.{◌≡◌, true, false, is_some, List, ℕ, Option, Some, None, unwrap_or, refl, sym, ap, ◌∙◌}
 use Rattle.std.specs.FinMap as map
 use Rattle.std.proofs.lemmas.Bool.{false≢true}
 use Rattle.sea_object.specs.Objects.{ObjectMap, ObjectValue, object_at, empty_object}

@@ -1,10 +1,9 @@
 -- What a request's pieces are, how many blocks they need, and what they make of the objects.
 use Rattle.std.proofs.Common.{◌≡◌, ℕ, suc, ◌+◌, ◌*◌, ◌≤◌, List, [], ◌∷◌, ◌++◌, length, refl, sym, ap, ◌∙◌, arith, length-append}
 use Rattle.std.specs.Prelude.{sum_by}
-use Rattle.std.specs.List.{flat_map, AllByRecursion}
+use Rattle.std.specs.List.{AllByRecursion}
 use Rattle.std.specs.FinMap as map
 use Rattle.std.proofs.lemmas.List.Sums.{sum_by-cons}
-use Rattle.sea_base.proofs.Fields.{length-big_endian}
 use Rattle.sea_object.specs.declared.op.Op.{Op}
 use Rattle.sea_object.specs.declared.op.Op.TheVariants.{Write, Read}
 use Rattle.sea_object.specs.Op.{IsWithinLimits, data_blocks, blocks_touched}
@@ -15,6 +14,7 @@ use Rattle.sea_top.specs.declared.record.Piece.{Piece}
 use Rattle.sea_top.specs.Record.{IsPiece, piece_bytes, body_bytes, blocks_of}
 use Rattle.sea_top.specs.Trail.{after_piece, after_pieces}
 use Rattle.sea_top.specs.Pieces.{pieces_asked}
+use Rattle.sea_top.proofs.RecordLengths.{length-piece_bytes, body_bytes-cons, body_bytes-nil}
 
 -- a request's pieces end within their objects
 pub pieces_fit : (ops : List Op) → AllByRecursion IsWithinLimits ops → AllByRecursion IsPiece (pieces_asked ops)
@@ -32,27 +32,14 @@ few_pieces (Read name offset count ∷ ops) = let h = few_pieces ops in omega ar
 touched_blocks : (offset count : ℕ) → 1 ≤ count → count ≤ 4096 * blocks_touched offset count
 touched_blocks offset count some = omega arith
 
-length-piece_bytes : (piece : Piece) → length (piece_bytes piece) ≡ 9 + length piece.name + length piece.bytes
-unfolding piece_bytes
-length-piece_bytes piece =
-    simp (length-append, length-big_endian) (omega arith)
-
-body_bytes-cons : (piece : Piece) (pieces : List Piece) → length (body_bytes (piece ∷ pieces)) ≡ length (piece_bytes piece) + length (body_bytes pieces)
-unfolding body_bytes
-body_bytes-cons piece pieces = length-append (piece_bytes piece) (flat_map piece_bytes pieces)
-
-body_bytes-nil : length (body_bytes []) ≡ 0
-unfolding body_bytes
-body_bytes-nil = refl
-
 bound : (all front rest name count blocks sum blocks_here len : ℕ) → all ≡ front + rest → front ≡ 9 + name + count → count ≤ 4096 * blocks_here → name ≤ 64 → rest ≤ 73 * len + 4096 * sum → blocks ≡ blocks_here + sum → all ≤ 73 * suc len + 4096 * blocks
 bound all front rest name count blocks sum blocks_here len a b c d e f = omega arith
 
 body_bound : (ops : List Op) → AllByRecursion IsWithinLimits ops → length (body_bytes (pieces_asked ops)) ≤ 73 * length ops + 4096 * sum_by data_blocks ops
-body_bound [] within = omega (arith, body_bytes-nil)
+body_bound [] within = omega (arith, ap length body_bytes-nil)
 body_bound (Write name offset bytes ∷ ops) within =
     let piece : Piece = record { name = name; offset = offset; bytes = bytes } in
-    let parts : length (body_bytes (pieces_asked (Write name offset bytes ∷ ops))) ≡ length (piece_bytes piece) + length (body_bytes (pieces_asked ops)) = body_bytes-cons piece (pieces_asked ops) in
+    let parts : length (body_bytes (pieces_asked (Write name offset bytes ∷ ops))) ≡ length (piece_bytes piece) + length (body_bytes (pieces_asked ops)) = ap length (body_bytes-cons piece (pieces_asked ops)) ∙ length-append (piece_bytes piece) (body_bytes (pieces_asked ops)) in
     let front : length (piece_bytes piece) ≡ 9 + length name + length bytes = length-piece_bytes piece in
     let blocks : length bytes ≤ 4096 * blocks_touched offset (length bytes) = touched_blocks offset (length bytes) within.0.1 in
     let named : length name ≤ 64 = within.0.0.1 in

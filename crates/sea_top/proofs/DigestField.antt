@@ -7,7 +7,7 @@ use Rattle.sea_top.specs.Header.{header_bytes}
 use Rattle.sea_top.specs.Record.{IsPlain, blocks_of, body_bytes, digest_of, spelling}
 use Rattle.sea_top.proofs.RecordBytes.{spelled_parts}
 use Rattle.sea_top.proofs.Sealing.{length-digest_of, length-header_of}
-use Rattle.sea_top.proofs.Slices.{slice_at}
+use Rattle.sea_base.proofs.Slices.{slice_at}
 
 -- the field of the record's own digest
 pub digest_field : (plain : PlainRecord) (behind : List ℕ) → IsPlain plain → slice_range (spelling plain ++ behind) 64 96 ≡ digest_of plain

@@ -1,11 +1,10 @@
 -- What writing the fields of a piece one behind the other leaves.
 use Rattle.std.proofs.Common.{◌≡◌, ℕ, ◌+◌, ◌<◌, ◌≤◌, List, [], ◌∷◌, ◌++◌, length, take, drop, ap, subst, ◌∙◌, arith, length-append}
 use Rattle.sea_base.specs.Field.{big_endian}
-use Rattle.sea_base.proofs.Fields.{length-big_endian}
+use Rattle.sea_base.proofs.Fields.{length-big_endian, one_byte}
 use Rattle.sea_top.specs.declared.record.Piece.{Piece}
 use Rattle.sea_top.specs.Record.{piece_bytes}
 use Rattle.sea_top.proofs.Overlays.{Overlays, Overlays-number, Overlays-then}
-use Rattle.sea_top.proofs.RecordLengths.{one_byte}
 
 module _ (at : ℕ) (name bytes : List ℕ) (offset : ℕ) (b0 b1 b2 b3 b4 b5 : List ℕ) where
   pub fields_written : length name < 256 → at + 9 + length name + length bytes ≤ length b0 → Overlays at (length name ∷ []) b0 b1 → Overlays (at + 1) name b1 b2

@@ -5,7 +5,7 @@ use Rattle.std.specs.Option.{option_map}
 use Rattle.std.proofs.lemmas.List.{append-nil}
 use Rattle.sea_device.specs.Device.{FaultsRose}
 use Rattle.sea_top.specs.declared.refusal.Refusal.{Refusal}
-use Rattle.sea_top.specs.Headline.{front}
+use Rattle.sea_top.specs.Headline.{nothing, front}
 use Rattle.sea_top.specs.Input.{TakesFront}
 use Rattle.sea_top.specs.Printing.{Says}
 
@@ -13,7 +13,7 @@ module _ {O : Type 0} (held : O → Option (List ℕ)) (count : O → ℕ) (text
   -- for want of memory nothing is put out
   pub says_nothing : (sink : O) → status ≡ 5 → Says held count sink sink text ending status
   says_nothing sink is = record {
-    prints = λ before told. ([], told ∙ ap (λ (b : List ℕ). Some b) (sym (append-nil before)), front (inl is) (text ending) refl);
+    prints = λ before told. ([], told ∙ ap (λ (b : List ℕ). Some b) (sym (append-nil before)), nothing is refl);
     known = inr (inl is);
     later = omega arith;
     cause = λ seven. absurd (omega arith);
@@ -22,7 +22,7 @@ module _ {O : Type 0} (held : O → Option (List ℕ)) (count : O → ℕ) (text
   -- a sink that fails has taken a front
   pub says_front : (old new : O) (bytes : List ℕ) → status ≡ 7 → bytes ≡ text ending → TakesFront bytes (held old) (held new) → count old ≤ count new → FaultsRose (count old) (count new) → Says held count old new text ending status
   says_front old new bytes is spelled taken later rose = record {
-    prints = λ before told. (taken.front, taken.taken ∙ ap (option_map (λ t. t ++ taken.front)) told, front (inr is) taken.back (sym spelled ∙ taken.parts));
+    prints = λ before told. (taken.front, taken.taken ∙ ap (option_map (λ t. t ++ taken.front)) told, front is taken.back (sym spelled ∙ taken.parts));
     known = inr (inr is);
     later = later;
     cause = λ seven. rose;

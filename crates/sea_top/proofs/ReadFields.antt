@@ -1,19 +1,16 @@
 -- The fields that stand in the bytes of a header and of a piece.
-use Rattle.std.proofs.Common.{◌≡◌, Bool, true, false, ℕ, ◌+◌, ◌<◌, ◌≤◌, List, [], ◌∷◌, ◌++◌, length, get_or, take, drop, replicate, codes, refl, sym, ap, subst, ◌∙◌, arith, append_assoc, length-append, take-append-drop}
-use Rattle.std.specs.Prelude.{slice_range, not}
-use Rattle.std.specs.Str.{bytes_eq}
-use Rattle.std.proofs.lemmas.List.{length-replicate}
-use Rattle.std.proofs.lemmas.Slice.Eq.{bytes_eq-Decides}
+use Rattle.std.proofs.Common.{◌≡◌, ℕ, ◌+◌, ◌<◌, ◌≤◌, List, [], ◌∷◌, ◌++◌, length, get_or, take, drop, replicate, codes, refl, sym, ap, subst, ◌∙◌, arith, append_assoc, length-append, take-append-drop}
+use Rattle.std.specs.Prelude.{slice_range}
 use Rattle.sea_base.specs.Field.{big_endian}
-use Rattle.sea_base.proofs.Fields.{length-big_endian}
+use Rattle.sea_base.proofs.Fields.{length-big_endian, one_byte}
 use Rattle.sea_top.specs.declared.record.Piece.{Piece}
 use Rattle.sea_top.specs.declared.record.header.Header.{Header}
 use Rattle.sea_top.specs.Header.{header_bytes, IsHeader}
 use Rattle.sea_top.specs.Record.{IsPiece, piece_bytes}
-use Rattle.sea_top.proofs.RecordLengths.{one_byte, length-piece_bytes, length-header_bytes}
+use Rattle.sea_top.proofs.RecordLengths.{length-piece_bytes, length-header_bytes}
 use Rattle.sea_top.proofs.SameHeaders.{header_parts}
 use Rattle.sea_top.proofs.SamePieces.{piece_parts}
-use Rattle.sea_top.proofs.Slices.{slice_at, slice_then}
+use Rattle.sea_base.proofs.Slices.{slice_at, slice_then}
 
 -- what is tested of a header
 pub record HeaderFields (bytes : List ℕ) : Type 0 where
@@ -119,22 +116,3 @@ piece_read bytes n end p some first len below name offset count tail le =
     one : (xs : List ℕ) → 1 ≤ length xs → get_or xs 0 0 ∷ [] ≡ slice_range xs 0 1
     one [] some = absurd (omega arith)
     one (x ∷ xs) some = refl
-
--- what a comparison of two byte strings tells
-pub differing : (xs ys : List ℕ) (r : Bool) → r ≡ not (bytes_eq xs ys) → r ≡ true → xs ≡ ys → ⊥
-differing xs ys r e differ same = never (bytes_eq xs ys) ((bytes_eq-Decides xs ys).1 same) (sym e ∙ differ)
-  where
-    never : (b : Bool) → b ≡ true → not b ≡ true → ⊥
-    never true e f = cc
-    never false e f = cc
-
-pub equal : (xs ys : List ℕ) (r : Bool) → r ≡ not (bytes_eq xs ys) → r ≡ false → xs ≡ ys
-equal xs ys r e same = (bytes_eq-Decides xs ys).0 (told (bytes_eq xs ys) (sym e ∙ same))
-  where
-    told : (b : Bool) → not b ≡ false → b ≡ true
-    told true e = refl
-    told false e = absurd cc
-
--- zeros, by their length and by a number
-pub zeros_long : (xs : List ℕ) (n : ℕ) → xs ≡ replicate n 0 → xs ≡ replicate (length xs) 0
-zeros_long xs n e = e ∙ ap (λ (k : ℕ). replicate k 0) (sym (ap length e ∙ length-replicate {A = ℕ} n 0))

@@ -13,7 +13,7 @@ use Rattle.sea_top.proofs.RecordBytes.{length-spelling, spelled_parts, IsHeader-
 use Rattle.sea_top.proofs.RecordLengths.{length-piece_bytes, body_bytes-cons, body_bytes-nil, blocks_of_is, body_fits}
 use Rattle.sea_top.proofs.SameHeaders.{same_header}
 use Rattle.sea_top.proofs.Sealing.{length-digest_of, length-header_of, resealed}
-use Rattle.sea_top.proofs.Slices.{slice_at, slice_then, length-slice}
+use Rattle.sea_base.proofs.Slices.{slice_at, slice_then, length-slice}
 
 -- there is a piece exactly where there are bytes
 some_bytes : (pieces : List Piece) → 1 ≤ length pieces → 1 ≤ length (body_bytes pieces)

@@ -11,8 +11,8 @@ use Rattle.sea_top.specs.Header.{header_bytes, IsHeader}
 use Rattle.sea_top.specs.Record.{IsPlain, body_bytes, blocks_of, header_of, sealed, digest_of, spelling}
 use Rattle.sea_top.proofs.RecordLengths.{body_fits, length-body_plain}
 use Rattle.sea_top.proofs.SameHeaders.{header_parts, same_header}
-use Rattle.sea_top.proofs.SamePieces.{same_parts, same_body}
-use Rattle.sea_top.proofs.Slices.{slice_at}
+use Rattle.sea_top.proofs.SamePieces.{same_body}
+use Rattle.sea_base.proofs.Slices.{slice_at, same_parts}
 use Rattle.sea_top.proofs.Sealing.{length-digest_of, length-header_of}
 
 -- a record takes whole blocks

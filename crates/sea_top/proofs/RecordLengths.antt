@@ -10,10 +10,6 @@ use Rattle.sea_top.specs.declared.record.header.Header.{Header}
 use Rattle.sea_top.specs.Header.{header_bytes}
 use Rattle.sea_top.specs.Record.{IsPiece, piece_bytes, body_bytes, blocks_of}
 
-pub one_byte : (n : ℕ) → n < 256 → n ∷ [] ≡ big_endian 1 n
-unfolding big_endian
-one_byte n below = ap (λ (b : ℕ). b ∷ []) (omega arith)
-
 pub length-piece_bytes : (p : Piece) → length (piece_bytes p) ≡ 9 + length p.name + length p.bytes
 unfolding piece_bytes
 length-piece_bytes p =

@@ -1,9 +1,10 @@
 -- Headers are told by their bytes.
 use Rattle.std.proofs.Common.{◌≡◌, ℕ, List, ◌++◌, replicate, codes, refl, sym, ap, ◌∙◌, arith, append_assoc}
 use Rattle.sea_base.specs.Field.{big_endian}
+use Rattle.sea_base.proofs.Fields.{same_field}
+use Rattle.sea_base.proofs.Slices.{same_parts}
 use Rattle.sea_top.specs.declared.record.header.Header.{Header}
 use Rattle.sea_top.specs.Header.{header_bytes, IsHeader}
-use Rattle.sea_top.proofs.SamePieces.{same_parts, same_field}
 
 -- a header's fields, one behind the other
 pub header_parts : (h : Header) (rest : List ℕ) → header_bytes h ++ rest ≡ codes "SEAPLAIN" ++ (big_endian 8 h.commit.0 ++ (big_endian 4 h.blocks ++ (big_endian 4 h.body_len ++ (replicate 8 0 ++ (h.previous.0 ++ (h.digest.0 ++ rest))))))

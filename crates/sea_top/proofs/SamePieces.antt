@@ -1,25 +1,13 @@
 -- Pieces are told by their bytes.
-use Rattle.std.proofs.Common.{◌≡◌, ℕ, ◌^◌, ◌<◌, List, [], ◌∷◌, ◌++◌, length, take, drop, refl, sym, ap, ◌∙◌, arith, append_assoc, length-append}
+use Rattle.std.proofs.Common.{◌≡◌, ℕ, List, [], ◌∷◌, ◌++◌, length, refl, sym, ap, ◌∙◌, arith, append_assoc, length-append}
 use Rattle.std.specs.List.{AllByRecursion}
-use Rattle.std.proofs.lemmas.List.{take_at, drop_at, append-nil}
+use Rattle.std.proofs.lemmas.List.{append-nil}
 use Rattle.sea_base.specs.Field.{big_endian}
-use Rattle.sea_base.proofs.Fields.{length-big_endian, big_endian-injective}
+use Rattle.sea_base.proofs.Fields.{same_field}
+use Rattle.sea_base.proofs.Slices.{same_parts}
 use Rattle.sea_top.specs.declared.record.Piece.{Piece}
 use Rattle.sea_top.specs.Record.{IsPiece, piece_bytes, body_bytes}
 use Rattle.sea_top.proofs.RecordLengths.{length-piece_bytes, body_bytes-cons, body_bytes-nil}
-
--- fronts of one length are the same, and so are the rests
-pub same_parts : {A : Type 0} (xs ys rs ss : List A) → length xs ≡ length ys → xs ++ rs ≡ ys ++ ss → (xs ≡ ys) × (rs ≡ ss)
-same_parts xs ys rs ss len e = (
-  sym (take_at xs rs (length ys) len) ∙ ap (take (length ys)) e ∙ take_at ys ss (length ys) refl,
-  sym (drop_at xs rs (length ys) len) ∙ ap (drop (length ys)) e ∙ drop_at ys ss (length ys) refl,
-)
-
--- fields of one width with the same bytes hold one number
-pub same_field : (n x y : ℕ) (rs ss : List ℕ) → x < 256 ^ n → y < 256 ^ n → big_endian n x ++ rs ≡ big_endian n y ++ ss → (x ≡ y) × (rs ≡ ss)
-same_field n x y rs ss fx fy e =
-    let parts = same_parts (big_endian n x) (big_endian n y) rs ss (length-big_endian n x ∙ sym (length-big_endian n y)) e in
-    (big_endian-injective n x y fx fy parts.0, parts.1)
 
 -- a piece's fields, one behind the other
 pub piece_parts : (p : Piece) (rest : List ℕ) → piece_bytes p ++ rest ≡ big_endian 1 (length p.name) ++ (p.name ++ (big_endian 4 p.offset ++ (big_endian 4 (length p.bytes) ++ (p.bytes ++ rest))))

@@ -1,18 +1,18 @@
 -- What the command `steps` promises, of the device, the source and the sink that it was given.
-use Rattle.std.specs.Prelude.{◌≡◌, ◌⊎◌, ℕ, ◌-◌, ◌≤◌, List, [], ◌++◌, length, take, Option, Some, None}
+use Rattle.std.specs.Prelude.{◌≡◌, ◌⊎◌, ℕ, ◌-◌, ◌≤◌, List, [], ◌++◌, length, take, Option, Some, None, IfSome}
 use Rattle.std.specs.List.{flat_map}
 use Rattle.sea_object.specs.Objects.{ObjectMap}
-use Rattle.sea_top.specs.declared.plan.Asked.{Asked}
-use Rattle.sea_top.specs.declared.history.Entry.{Entry}
+use Rattle.sea_script.specs.declared.plan.Asked.{Asked}
+use Rattle.sea_script.specs.declared.history.Entry.{Entry}
 use Rattle.sea_top.specs.declared.record.PlainRecord.{PlainRecord}
 use Rattle.sea_top.specs.declared.refusal.Refusal.{Refusal}
 use Rattle.sea_top.specs.declared.refusal.Refusal.TheVariants.{Usage, Script, DeviceFault, NoMemory, ReadFault}
 use Rattle.sea_top.specs.Crash.{Crashes, IsUnwritten}
 use Rattle.sea_top.specs.History.{Legal, Serves, ServesFully}
 use Rattle.sea_top.specs.Refusal.{status_at, ending_line}
-use Rattle.sea_top.specs.Render.{entry_line, end_line}
+use Rattle.sea_script.specs.Render.{entry_line, end_line}
 use Rattle.sea_top.specs.Room.{KeepsRoom}
-use Rattle.sea_top.specs.Script.{IsScript, IsRefusedAt}
+use Rattle.sea_script.specs.Script.{IsScript, IsRefusedAt}
 use Rattle.sea_top.specs.Trail.{IsTrail, Opens, chain_end, objects_of}
 
 -- The device's bytes open to these objects, and so does each image that a crash may leave.
@@ -27,11 +27,12 @@ abbrev pub run_text : List Entry → ℕ → Option Refusal → List ℕ
 run_text history acknowledged ending =
     flat_map entry_line (take acknowledged history) ++ end_line acknowledged 0 ++ ending_line ending
 
--- The text was printed and the status is that of the ending; or memory ran out (5) or the sink failed (7)
--- behind a front of the text.
+-- The text was printed and the status is that of the ending; or memory ran out (5) before any of it was; or the
+-- sink failed (7) behind a front of it.
 pub data Prints (text : Option Refusal → List ℕ) (ending : Option Refusal) (status : ℕ) (printed : List ℕ) : Type 0 where
   whole : status ≡ status_at ending → printed ≡ text ending → Prints text ending status printed
-  front : (status ≡ 5) ⊎ (status ≡ 7) → (rest : List ℕ) → text ending ≡ printed ++ rest → Prints text ending status printed
+  nothing : status ≡ 5 → printed ≡ [] → Prints text ending status printed
+  front : status ≡ 7 → (rest : List ℕ) → text ending ≡ printed ++ rest → Prints text ending status printed
 
 -- What a run serves of a plan over a device that held this image of so many blocks.
 pub record Serving (plan : List Asked) (image : List ℕ) (blocks : ℕ) (history : List Entry) (acknowledged : ℕ) (ending : Option Refusal) (contents : Option (List ℕ)) (leaves before : List ℕ → Type 0) (start now : ℕ) (since : ℕ → List ℕ → Type 0) : Type 0 where
@@ -52,24 +53,28 @@ pub record Serving (plan : List Asked) (image : List ℕ) (blocks : ℕ) (histor
   -- a crash leaves a front of the history, with each acknowledged entry once the run has returned
   pub crash : Crashes image plan (objects_of records) history acknowledged contents leaves before start now since
 
+-- what may end a run: want of memory, or a fault of the device
+abbrev pub EndsRun : Option Refusal → Type 0
+EndsRun ending = IfSome ending (λ refusal. (refusal ≡ NoMemory) ⊎ (refusal ≡ DeviceFault))
+
 -- What came of a plan over a device: its opening was refused, or it was served; and what was printed.
 pub data Comes (plan : List Asked) (image : List ℕ) (blocks status : ℕ) (printed : List ℕ) (contents : Option (List ℕ)) (leaves before : List ℕ → Type 0) (start now : ℕ) (since : ℕ → List ℕ → Type 0) : Type 0 where
   not_opened : (refusal : Refusal) → (refusal ≡ NoMemory) ⊎ (refusal ≡ DeviceFault) → IsUnwritten image contents leaves before (since start) → Prints ending_line (Some refusal) status printed → Comes plan image blocks status printed contents leaves before start now since
-  served : (history : List Entry) (acknowledged : ℕ) (ending : Option Refusal) → Serving plan image blocks history acknowledged ending contents leaves before start now since → Prints (run_text history acknowledged) ending status printed → Comes plan image blocks status printed contents leaves before start now since
+  served : (history : List Entry) (acknowledged : ℕ) (ending : Option Refusal) → Serving plan image blocks history acknowledged ending contents leaves before start now since → EndsRun ending → Prints (run_text history acknowledged) ending status printed → Comes plan image blocks status printed contents leaves before start now since
 
--- a line that is named as refused is the first of another form
+-- A line that is named as refused is the first of another form. Words that are right are not refused.
 abbrev pub IsRefusedFor : List ℕ → Refusal → Type 0
 IsRefusedFor input (Script line why) = IsRefusedAt input line
-IsRefusedFor input Usage = Unit {0}
+IsRefusedFor input Usage = ⊥
 IsRefusedFor input DeviceFault = Unit {0}
 IsRefusedFor input NoMemory = Unit {0}
 IsRefusedFor input ReadFault = Unit {0}
 
 -- What was printed of a history: where the command ended before its opening was done, the refusal's line alone,
--- and nothing was served; else the text of the run.
-pub data Tells (input : List ℕ) (history : List Entry) (acknowledged status : ℕ) (printed : List ℕ) : Type 0 where
-  refused : (refusal : Refusal) → history ≡ [] → IsRefusedFor input refusal → Prints ending_line (Some refusal) status printed → Tells input history acknowledged status printed
-  ran : (ending : Option Refusal) → Prints (run_text history acknowledged) ending status printed → Tells input history acknowledged status printed
+-- and nothing was served; else the text of the run, whose input was a script.
+pub data Tells (input : List ℕ) (plan : List Asked) (history : List Entry) (acknowledged status : ℕ) (printed : List ℕ) : Type 0 where
+  refused : (refusal : Refusal) → history ≡ [] → IsRefusedFor input refusal → Prints ending_line (Some refusal) status printed → Tells input plan history acknowledged status printed
+  ran : (ending : Option Refusal) → IsScript input plan → EndsRun ending → Prints (run_text history acknowledged) ending status printed → Tells input plan history acknowledged status printed
 
 -- the history was served over the objects that the image opens to, and in the room behind its trail
 pub record IsOver (image : List ℕ) (blocks : ℕ) (plan : List Asked) (first : ObjectMap) (history : List Entry) : Type 0 where
@@ -101,7 +106,7 @@ pub record Headline (input image : List ℕ) (blocks status : ℕ) (printed : Li
   pub legal : Legal plan first history last
   pub serves : Serves plan history
   -- its acknowledged entries were printed
-  pub tells : Tells input history acknowledged status printed
+  pub tells : Tells input plan history acknowledged status printed
   -- with status 0 all is read, served, acknowledged and kept
   pub served : status ≡ 0 → IsServed input image blocks plan first history last acknowledged unread contents leaves
   -- a crash leaves a prefix of it; or it is empty, and nothing was written

@@ -13,9 +13,6 @@ pub mod Queue
 pub mod Record
 pub mod RecordParts
 pub mod Refusal
-pub mod Render
 pub mod Room
-pub mod Script
-pub mod ScriptReading
 pub mod Serving
 pub mod Trail

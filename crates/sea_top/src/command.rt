@@ -7,8 +7,9 @@ ghost use Rattle.sea_top.specs.Serving.{AsksFirst};
 use crate::planning::read_plan;
 use crate::print::{print_refusal, print_run};
 use crate::run::serve;
-use crate::{Plan, Refusal, Status};
+use crate::{Refusal, Status};
 use sea_device::{Device, Sink, Source};
+use sea_script::Plan;
 use std::alloc::Global;
 
 /// Does the command that the words name, and answers its status and the device. The one command is

@@ -3,31 +3,24 @@
 
 mod batch;
 mod command;
-mod history;
 mod input;
-mod plan;
 mod planning;
 mod print;
 mod queue;
 mod record;
 mod refusal;
-mod render;
 mod reply;
 mod request_pieces;
 mod run;
-mod script;
 mod serving;
 mod trail;
 
 pub use command::tool;
-pub use history::Entry;
-pub use plan::{Asked, Plan};
 pub use record::{
     Piece, Pieces, PlainRecord, RECORD_BLOCKS, push_record, read_record, record_blocks,
 };
 pub use refusal::{Refusal, Status};
 pub use run::{Run, serve};
-pub use script::{ScriptFault, ScriptWhy, read_script};
 pub use trail::{Trail, TrailFault, read_trail};
 
 #[cfg(test)]

@@ -2,9 +2,10 @@
 ghost use Rattle.std.specs.Prelude.{◌≡◌, ◌≤◌, IfOk, IfErr};
 ghost use Rattle.sea_top.specs.Planning.{IsNoPlan, IsPlanOf, refused_script};
 
+use crate::Refusal;
 use crate::input::read_all;
-use crate::{Plan, Refusal, ScriptFault, read_script};
 use sea_device::Source;
+use sea_script::{Plan, ScriptFault, read_script};
 use std::alloc::Global;
 
 impl From<ScriptFault> for Refusal {

@@ -2,17 +2,18 @@
 ghost use Rattle.std.specs.Prelude.{◌≡◌, ◌≤◌, ◌++◌, ℕ, List, Option, length, Some, string_bytes, IfOk, OnOk};
 ghost use Rattle.std.specs.List.{flat_map};
 ghost use Rattle.sea_top.specs.Headline.{run_text};
-ghost use Rattle.sea_top.specs.Refusal.{ending_line};
+ghost use Rattle.sea_top.specs.Refusal.{why_text, refusal_line, ending_line};
 ghost use Rattle.sea_top.specs.Printing.{Says};
-ghost use Rattle.sea_top.specs.Render.{entry_line, end_line};
+ghost use Rattle.sea_script.specs.Render.{entry_line, end_line};
 
 use crate::input::put_all;
-use crate::render::{push_end, push_entry, push_refusal};
 use crate::run::Run;
-use crate::{Entry, Refusal, Status};
+use crate::{Refusal, Status};
 use sea_base::NoMemory;
 use sea_device::Sink;
+use sea_script::{Entry, ScriptWhy, push_end, push_entry};
 use std::alloc::Global;
+use std::fmt::Write;
 
 /// Prints what a run served and how it ended.
 pub fn print_run<O: Sink>(alloc: Global, out: &mut O, run: &Run) -> Status
@@ -77,4 +78,21 @@ fn push_ending(text: &mut String, ending: Option<Refusal>) -> Result<(), NoMemor
         None => Ok(()),
         Some(refusal) => push_refusal(text, refusal),
     }
+}
+
+#[tactic(auto, unfolding(crate::specs::Refusal::refusal_line, crate::specs::Refusal::why_text))]
+fn push_refusal(text: &mut String, refusal: Refusal) -> Result<(), NoMemory>
+    ensures { OnOk result (string_bytes text.new ≡ string_bytes text.old ++ refusal_line refusal) }
+{
+    match refusal {
+        Refusal::Usage => text.push_str("usage\n")?,
+        Refusal::Script {
+            line,
+            why: ScriptWhy::NotBuilt,
+        } => write!(text, "script {line} NotBuilt\n")?,
+        Refusal::DeviceFault => text.push_str("device fault\n")?,
+        Refusal::NoMemory => text.push_str("no memory\n")?,
+        Refusal::ReadFault => text.push_str("read fault\n")?,
+    }
+    Ok(())
 }

@@ -3,6 +3,7 @@ mod header;
 mod reading;
 mod writing;
 
+pub use header::{BLOCKS_AT, DIGEST_AT};
 pub use reading::{RECORD_BLOCKS, read_record};
 use sea_base::{Commit, Data, Digest, Name, Sequence};
 pub use writing::{push_record, record_blocks};

@@ -2,7 +2,7 @@
 ghost use Rattle.std.specs.Prelude.{◌≡◌};
 ghost use Rattle.sea_top.specs.Refusal.{status_of};
 
-use crate::script::ScriptWhy;
+use sea_script::ScriptWhy;
 
 /// The number that a command ends with.
 #[derive(Clone, Copy, Debug, PartialEq, Eq)]

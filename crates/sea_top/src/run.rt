@@ -12,9 +12,10 @@ ghost use Rattle.sea_top.specs.Serving.{AsksFirst};
 
 use crate::queue::Queue;
 use crate::serving::serve_all;
-use crate::{Asked, Entry, Refusal, Trail, TrailFault, read_trail};
+use crate::{Refusal, Trail, TrailFault, read_trail};
 use sea_base::{Commit, NoMemory, Paddr, Sequence};
 use sea_device::Device;
+use sea_script::{Asked, Entry};
 use std::alloc::Global;
 
 /// What was served of a plan.

@@ -9,9 +9,9 @@ ghost use Rattle.sea_top.specs.Serving.{AsksFirst, Served, Queues};
 
 use crate::queue::Queue;
 use crate::reply::reply_to;
-use crate::{Asked, Entry};
 use sea_base::{NoMemory, Sequence};
 use sea_object::Objects;
+use sea_script::{Asked, Entry};
 use std::alloc::Global;
 
 /// Answers the requests of client 1 in order, enters each reply, and queues each record. After want of

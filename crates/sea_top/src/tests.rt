@@ -11,12 +11,16 @@ const HELLO: &[u8] = b"1 write a 0 x68656c6c6f ; read a 0 5\n";
 
 const HELLO_TEXT: &[u8] = b"1 1 done - x68656c6c6f\nend 1 0\n";
 
-// Runs the command `steps` with ample memory, and answers the status, the device and what was printed.
+const THREE: &[u8] = b"1 write a 0 x41\n1 write b 0 x42\n1 read a 0 1\n";
+
+const THREE_TEXT: &[u8] = b"1 1 done -\n1 2 done -\n1 3 done x41\nend 3 0\n";
+
+// Runs the command `steps` with ample memory, and answers the status, what was printed and the device.
 fn steps<D: Device + Drop>(
     alloc: Global,
     device: D,
     script: &[u8],
-) -> Result<(Status, D, Vec<u8>), Fail> {
+) -> Result<(u8, Vec<u8>, D), Fail> {
     let mut input = SteadySource::new(Data::new(alloc, script)?);
     steps_over(alloc, device, &mut input)
 }
@@ -25,10 +29,10 @@ fn steps_over<D: Device + Drop, I: Source>(
     alloc: Global,
     device: D,
     input: &mut I,
-) -> Result<(Status, D, Vec<u8>), Fail> {
+) -> Result<(u8, Vec<u8>, D), Fail> {
     let mut out = MemSink::new(alloc, 4096, Nths::new(alloc))?;
     let (status, device) = steps_into(alloc, device, input, &mut out)?;
-    Ok((status, device, out.taken().to_vec(alloc)?))
+    Ok((status, out.taken().to_vec(alloc)?, device))
 }
 
 fn steps_into<D: Device + Drop, I: Source, O: Sink>(
@@ -36,18 +40,18 @@ fn steps_into<D: Device + Drop, I: Source, O: Sink>(
     device: D,
     input: &mut I,
     out: &mut O,
-) -> Result<(Status, D), Fail> {
+) -> Result<(u8, D), Fail> {
     let words = vec![in alloc; String::from_str(alloc, "steps")?]?;
-    Ok(tool(alloc, &words, input, out, device))
+    let (status, device) = tool(alloc, &words, input, out, device);
+    Ok((status.0, device))
 }
 
-// The bytes of the object `a` that the device opens to.
-fn bytes_of_a<D: Device>(alloc: Global, device: &mut D) -> Result<Option<Vec<u8>>, Fail> {
+// Whether the object `a` that the device opens to has these bytes; one that is absent has none.
+fn holds<D: Device>(alloc: Global, device: &mut D, bytes: &[u8]) -> Result<bool, Fail> {
     let trail = read_trail(alloc, device)?;
-    let name = Name::new(alloc, b"a")?;
-    match trail.objects.get(&name) {
-        None => Ok(None),
-        Some(object) => Ok(Some(object.bytes().to_vec(alloc)?)),
+    match trail.objects.get(&Name::new(alloc, b"a")?) {
+        None => Ok(bytes.is_empty()),
+        Some(object) => Ok(object.bytes() == bytes),
     }
 }
 
@@ -57,158 +61,147 @@ fn listed(alloc: Global, nth: u64) -> Result<Nths, Fail> {
     Ok(nths)
 }
 
-#[test]
-fn hello_is_written_and_read_back(rt: HostRuntime) -> Result<(), Fail> {
-    let alloc = rt.alloc();
-    let device = SteadyDevice::new(alloc, 2049)?;
-    let (status, mut device, text) = steps(alloc, device, HELLO)?;
-    assert_eq!(rt; status.0, 0);
-    assert_eq!(rt; text.as_slice(), HELLO_TEXT);
-    assert!(rt; read_record(alloc, device.bytes())?.is_some());
-    let bytes = bytes_of_a(alloc, &mut device)?.ok_or("an object a")?;
-    assert_eq!(rt; bytes.as_slice(), b"hello".as_slice());
-    Ok(())
+// Each row: the blocks of the device, the script, the status, what is printed, and the bytes of `a` then.
+const RUNS: [(u32, &[u8], u8, &[u8], &[u8]); 7] = [
+    (2049, HELLO, 0, HELLO_TEXT, b"hello"),
+    (9, THREE, 0, THREE_TEXT, b"A"),
+    (
+        1,
+        b"1 write a 0 x41\n# one block is all there is\n\n1 write a 0 x42",
+        0,
+        b"1 1 done -\n1 2 full 1 0 0\nend 2 0\n",
+        b"A",
+    ),
+    (0, b"1 write a 0 x41", 0, b"1 1 full 1 0 0\nend 1 0\n", b""),
+    (2, b"1 touch a", 2, b"script 1 NotBuilt\n", b""),
+    (
+        2,
+        b"1 write a 16777215 x4142",
+        2,
+        b"script 1 NotBuilt\n",
+        b"",
+    ),
+    (
+        2,
+        b"# a\n1 write a 0 x41\n1 touch a",
+        2,
+        b"script 3 NotBuilt\n",
+        b"",
+    ),
+];
+
+fn runs_so(
+    alloc: Global,
+    blocks: u32,
+    script: &[u8],
+    status: u8,
+    text: &[u8],
+    bytes: &[u8],
+) -> Result<bool, Fail> {
+    let device = SteadyDevice::new(alloc, blocks)?;
+    let (ended, printed, mut device) = steps(alloc, device, script)?;
+    Ok(ended == status && printed.as_slice() == text && holds(alloc, &mut device, bytes)?)
 }
 
 #[test]
-fn refused_lines_leave_the_device(rt: HostRuntime) -> Result<(), Fail> {
-    let alloc = rt.alloc();
-    let long = b"1 read aaaaaaaaaaaaaaaaaaaaaaaaaaaaaaaaaaaaaaaaaaaaaaaaaaaaaaaaaaaaaaaaa 0 1";
-    for script in [
-        b"1 touch a".as_slice(),
-        b"1 write a 16777215 x4142",
-        long,
-        b"1 write a 0 x414",
-        b"1 write a 0 x4A",
-        b"1 read a 01 1",
-        b"1 read a 1000000000 1",
-        b"1 read  a 0 1",
-        b"1 read a 0",
-    ] {
-        let device = SteadyDevice::new(alloc, 2)?;
-        let (status, device, text) = steps(alloc, device, script)?;
-        assert_eq!(rt; status.0, 2);
-        assert_eq!(rt; text.as_slice(), b"script 1 NotBuilt\n".as_slice());
-        assert!(rt; device.bytes().iter().all(|b| *b == 0));
+fn each_script_ends_and_prints_so(rt: HostRuntime) -> Result<(), Fail> {
+    for (blocks, script, status, text, bytes) in RUNS {
+        let so = runs_so(rt.alloc(), blocks, script, status, text, bytes)?;
+        assert!(rt; so, "over {blocks} blocks");
     }
     Ok(())
 }
 
 #[test]
-fn a_full_device_answers_so_and_keeps_what_it_has(rt: HostRuntime) -> Result<(), Fail> {
-    let alloc = rt.alloc();
-    let device = SteadyDevice::new(alloc, 1)?;
-    let script = b"1 write a 0 x41\n# one block is all there is\n\n1 write a 0 x42";
-    let (status, device, text) = steps(alloc, device, script)?;
-    assert_eq!(rt; status.0, 0);
-    assert_eq!(rt;
-        text.as_slice(),
-        b"1 1 done -\n1 2 full 1 0 0\nend 2 0\n".as_slice()
-    );
-    let (status, _, text) = steps(alloc, device, b"# a\n1 read a 0 9\n1 touch a")?;
-    assert_eq!(rt; status.0, 2);
-    assert_eq!(rt; text.as_slice(), b"script 3 NotBuilt\n".as_slice());
-    let none = SteadyDevice::new(alloc, 0)?;
-    let (status, _, text) = steps(alloc, none, b"1 write a 0 x41")?;
-    assert_eq!(rt; status.0, 0);
-    assert_eq!(rt; text.as_slice(), b"1 1 full 1 0 0\nend 1 0\n".as_slice());
-    Ok(())
-}
-
-#[test]
 fn a_second_run_reads_what_the_first_wrote(rt: HostRuntime) -> Result<(), Fail> {
-    let alloc = rt.alloc();
-    let device = SteadyDevice::new(alloc, 9)?;
-    let (_, device, _) = steps(alloc, device, HELLO)?;
-    let (status, mut device, text) = steps(
-        alloc,
-        device,
-        b"1 read a 1 3 ; write a 7 x21\n1 read a 0 9",
-    )?;
-    assert_eq!(rt; status.0, 0);
-    assert_eq!(rt;
-        text.as_slice(),
-        b"1 1 done x656c6c -\n1 2 done x68656c6c6f000021\nend 2 0\n".as_slice()
-    );
-    let bytes = bytes_of_a(alloc, &mut device)?.ok_or("an object a")?;
-    assert_eq!(rt; bytes.as_slice(), b"hello\0\0!".as_slice());
+    let device = SteadyDevice::new(rt.alloc(), 9)?;
+    let (_, _, device) = steps(rt.alloc(), device, HELLO)?;
+    let script = b"1 read a 1 3 ; write a 7 x21\n1 read a 0 9";
+    let (status, text, mut device) = steps(rt.alloc(), device, script)?;
+    assert_eq!(rt; status, 0);
+    let said = b"1 1 done x656c6c -\n1 2 done x68656c6c6f000021\nend 2 0\n";
+    assert_eq!(rt; text.as_slice(), said.as_slice());
+    assert!(rt; holds(rt.alloc(), &mut device, b"hello\0\0!")?);
     Ok(())
 }
 
 #[test]
 fn an_input_that_is_too_long_is_refused_at_line_0(rt: HostRuntime) -> Result<(), Fail> {
-    let alloc = rt.alloc();
-    let device = SteadyDevice::new(alloc, 1)?;
-    let newlines = Data::from_vec(vec![in alloc; 10; 67_108_865]?)?;
-    let (status, device, text) = steps_over(alloc, device, &mut SteadySource::new(newlines))?;
-    assert_eq!(rt; status.0, 2);
+    let newlines = Data::from_vec(vec![in rt.alloc(); 10; 67_108_865]?)?;
+    let device = SteadyDevice::new(rt.alloc(), 1)?;
+    let (status, text, _) = steps_over(rt.alloc(), device, &mut SteadySource::new(newlines))?;
+    assert_eq!(rt; status, 2);
     assert_eq!(rt; text.as_slice(), b"script 0 NotBuilt\n".as_slice());
-    assert!(rt; device.bytes().iter().all(|b| *b == 0));
     Ok(())
 }
 
 #[test]
-fn faults_of_device_source_and_sink_are_told(rt: HostRuntime) -> Result<(), Fail> {
-    let alloc = rt.alloc();
-    let mut fails = Fails::none(alloc);
-    fails.writes = listed(alloc, 1)?;
-    let device = MemDevice::new(alloc, 9, 9, 65_536, fails)?;
-    let (status, device, text) = steps(alloc, device, HELLO)?;
-    assert_eq!(rt; status.0, 3);
-    assert_eq!(rt; device.faults(), 1);
-    assert_eq!(rt; text.as_slice(), b"end 0 0\ndevice fault\n".as_slice());
-
-    let mut input = MemSource::new(Data::new(alloc, HELLO)?, 7, listed(alloc, 1)?);
-    let (status, device, text) = steps_over(alloc, SteadyDevice::new(alloc, 9)?, &mut input)?;
-    assert_eq!(rt; status.0, 6);
+fn a_source_that_fails_is_told(rt: HostRuntime) -> Result<(), Fail> {
+    let hello = Data::new(rt.alloc(), HELLO)?;
+    let mut input = MemSource::new(hello, 7, listed(rt.alloc(), 2)?);
+    let device = SteadyDevice::new(rt.alloc(), 9)?;
+    let (status, text, _) = steps_over(rt.alloc(), device, &mut input)?;
+    assert_eq!(rt; status, 6);
     assert_eq!(rt; text.as_slice(), b"read fault\n".as_slice());
-    assert!(rt; device.bytes().iter().all(|b| *b == 0));
-
-    let mut out = MemSink::new(alloc, 64, listed(alloc, 1)?)?;
-    let mut input = MemSource::new(Data::new(alloc, HELLO)?, 7, Nths::new(alloc));
-    let (status, mut device) = steps_into(alloc, device, &mut input, &mut out)?;
-    assert_eq!(rt; status.0, 7);
-    assert!(rt; out.taken().is_empty());
-    assert!(rt; bytes_of_a(alloc, &mut device)?.is_some());
     Ok(())
 }
 
-// Each row: which read, write and sync of the device fails, the status, and what is printed.
-const FAULTS: [(u64, u64, u64, u8, &[u8]); 8] = [
-    (1, 0, 0, 3, b"device fault\n"),
-    (2, 0, 0, 0, THREE_TEXT),
-    (0, 1, 0, 3, b"end 0 0\ndevice fault\n"),
-    (0, 2, 0, 0, THREE_TEXT),
-    (0, 0, 1, 3, b"device fault\n"),
-    (0, 0, 2, 3, b"end 0 0\ndevice fault\n"),
-    (0, 0, 3, 0, THREE_TEXT),
-    (0, 0, 0, 0, THREE_TEXT),
+#[test]
+fn a_sink_that_fails_is_told_by_the_status(rt: HostRuntime) -> Result<(), Fail> {
+    let hello = Data::new(rt.alloc(), HELLO)?;
+    let mut input = MemSource::new(hello, 7, Nths::new(rt.alloc()));
+    let mut out = MemSink::new(rt.alloc(), 64, listed(rt.alloc(), 1)?)?;
+    let device = SteadyDevice::new(rt.alloc(), 9)?;
+    let (status, mut device) = steps_into(rt.alloc(), device, &mut input, &mut out)?;
+    assert_eq!(rt; status, 7);
+    assert!(rt; out.taken().is_empty());
+    assert!(rt; holds(rt.alloc(), &mut device, b"hello")?);
+    Ok(())
+}
+
+// Each row: which read, write and sync of the device fails, the status, what is printed, and the bytes of `a` then.
+const FAULTS: [(u64, u64, u64, u8, &[u8], &[u8]); 8] = [
+    (1, 0, 0, 3, b"device fault\n", b""),
+    (2, 0, 0, 0, THREE_TEXT, b"A"),
+    (0, 1, 0, 3, b"end 0 0\ndevice fault\n", b""),
+    (0, 2, 0, 0, THREE_TEXT, b"A"),
+    (0, 0, 1, 3, b"device fault\n", b""),
+    (0, 0, 2, 3, b"end 0 0\ndevice fault\n", b"A"),
+    (0, 0, 3, 0, THREE_TEXT, b"A"),
+    (0, 0, 0, 0, THREE_TEXT, b"A"),
 ];
 
-const THREE: &[u8] = b"1 write a 0 x41\n1 write b 0 x42\n1 read a 0 1\n";
+// The calls of a device that fail.
+fn fails(alloc: Global, read: u64, write: u64, sync: u64) -> Result<Fails, Fail> {
+    Ok(Fails {
+        reads: listed(alloc, read)?,
+        writes: listed(alloc, write)?,
+        syncs: listed(alloc, sync)?,
+    })
+}
 
-const THREE_TEXT: &[u8] = b"1 1 done -\n1 2 done -\n1 3 done x41\nend 3 0\n";
+// Whether a run over a device with these failures ends and prints so, and leaves an object `a` with these bytes.
+fn fails_so(
+    alloc: Global,
+    fails: Fails,
+    status: u8,
+    text: &[u8],
+    bytes: &[u8],
+) -> Result<bool, Fail> {
+    let device = MemDevice::new(alloc, 9, 9, 65_536, fails)?;
+    let (ended, printed, device) = steps(alloc, device, THREE)?;
+    let faults = if status == 0 { 0 } else { 1 };
+    let told = ended == status && printed.as_slice() == text && device.faults() == faults;
+    let refitted = device.refit(9, 65_536, Fails::none(alloc)).ok();
+    Ok(told && holds(alloc, &mut refitted.ok_or("ample memory")?, bytes)?)
+}
 
 #[test]
 fn each_call_of_the_device_fails_once(rt: HostRuntime) -> Result<(), Fail> {
-    let alloc = rt.alloc();
-    for (read, write, sync, want, said) in FAULTS {
-        let fails = Fails {
-            reads: listed(alloc, read)?,
-            writes: listed(alloc, write)?,
-            syncs: listed(alloc, sync)?,
-        };
-        let device = MemDevice::new(alloc, 9, 9, 65_536, fails)?;
-        let (status, device, text) = steps(alloc, device, THREE)?;
-        assert_eq!(rt; status.0, want);
-        assert_eq!(rt; text.as_slice(), said);
-        assert_eq!(rt; device.faults(), if want == 0 { 0 } else { 1 });
-        let mut device = device
-            .refit(9, 65_536, Fails::none(alloc))
-            .ok()
-            .ok_or("ample memory")?;
-        let written = bytes_of_a(alloc, &mut device)?.is_some();
-        assert_eq!(rt; written, want == 0 || sync == 2);
+    for (read, write, sync, status, text, bytes) in FAULTS {
+        let fails = fails(rt.alloc(), read, write, sync)?;
+        let so = fails_so(rt.alloc(), fails, status, text, bytes)?;
+        assert!(rt; so, "read {read}, write {write}, sync {sync}");
     }
     Ok(())
 }
@@ -243,20 +236,14 @@ fn crashed_with_first(
 
 #[test]
 fn a_crash_before_the_last_sync_leaves_hello_or_no_object(rt: HostRuntime) -> Result<(), Fail> {
-    let alloc = rt.alloc();
-    let device = MemDevice::new(alloc, 2049, 3, 8192, Fails::none(alloc))?;
-    let (status, device, text) = steps(alloc, device, HELLO)?;
-    assert_eq!(rt; status.0, 0);
-    assert_eq!(rt; text.as_slice(), HELLO_TEXT);
+    let device = MemDevice::new(rt.alloc(), 2049, 3, 8192, Fails::none(rt.alloc()))?;
+    let (_, _, device) = steps(rt.alloc(), device, HELLO)?;
     assert_eq!(rt; device.clock(), 3);
-
-    let mut lost = crashed_bare(&rt, alloc, &device, 2)?;
-    assert!(rt; bytes_of_a(alloc, &mut lost)?.is_none());
-    let mut kept = crashed_with_first(&rt, alloc, &device, 2)?;
-    let bytes = bytes_of_a(alloc, &mut kept)?.ok_or("an object a")?;
-    assert_eq!(rt; bytes.as_slice(), b"hello".as_slice());
-    let mut synced = crashed_bare(&rt, alloc, &device, 3)?;
-    let bytes = bytes_of_a(alloc, &mut synced)?.ok_or("an object a")?;
-    assert_eq!(rt; bytes.as_slice(), b"hello".as_slice());
+    let mut lost = crashed_bare(&rt, rt.alloc(), &device, 2)?;
+    assert!(rt; holds(rt.alloc(), &mut lost, b"")?);
+    let mut kept = crashed_with_first(&rt, rt.alloc(), &device, 2)?;
+    assert!(rt; holds(rt.alloc(), &mut kept, b"hello")?);
+    let mut synced = crashed_bare(&rt, rt.alloc(), &device, 3)?;
+    assert!(rt; holds(rt.alloc(), &mut synced, b"hello")?);
     Ok(())
 }

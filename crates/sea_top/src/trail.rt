@@ -6,6 +6,7 @@ ghost use Rattle.sea_top.specs.Record.{BeginsWith, BeginsWithNone};
 ghost use Rattle.sea_top.specs.Trail.{StandsAt, NoneStandsAt, Continues, NoneContinues, IsFound, HoldsRecord, BlamesDevice, IsTrailOf, after_pieces};
 ghost use Rattle.sea_top.specs.declared.trail.TrailFault.TheVariants.{NoMemory as OutOfMemory, DeviceFault};
 
+use crate::record::{BLOCKS_AT, DIGEST_AT};
 use crate::{Piece, PlainRecord, RECORD_BLOCKS, read_record};
 use sea_base::{BLOCK_BYTES, Digest, NoMemory, Paddr, digest_at, u32_at};
 use sea_device::{Device, Failed};
@@ -15,11 +16,6 @@ use thiserror::Error;
 
 #[cfg(test)]
 mod tests;
-
-// Where a record names how many blocks it takes, and where its own digest stands.
-const BLOCKS_AT: usize = 16;
-
-const DIGEST_AT: usize = 64;
 
 /// The end of the trail of a device, and the objects that it opens to.
 #[derive(Debug, Drop)]

@@ -1,12 +1,15 @@
 //! The first 96 bytes of a record.
-ghost use Rattle.std.specs.Prelude.{◌≡◌, ◌+◌, ◌-◌, ◌≤◌, ◌++◌, ◌↔◌, length, replicate, slice_range, IsTrue, MatchOption};
+ghost use Rattle.std.specs.Prelude.{◌≡◌, ◌+◌, ◌-◌, ◌≤◌, ◌++◌, length, replicate, slice_range, MatchOption};
 ghost use Rattle.sea_top.specs.Header.{header_bytes};
 ghost use Rattle.sea_top.specs.RecordParts.{BeginsWithHeader, BeginsWithNoHeader};
 
-use sea_base::{Commit, Digest, digest_at, put_bytes, put_u32, put_u64, u32_at, u64_at};
+use sea_base::{Commit, Digest, digest_at, is_zero, put_bytes, put_u32, put_u64, u32_at, u64_at};
 
 /// How many bytes stand before a record's pieces.
 pub const HEADER_BYTES: usize = 96;
+
+/// Where a record names how many blocks it takes.
+pub const BLOCKS_AT: usize = 16;
 
 /// Where a record's own digest stands.
 pub const DIGEST_AT: usize = 64;
@@ -36,7 +39,7 @@ pub fn put_header(buffer: &mut [u8], header: &Header)
 {
     put_bytes(buffer, 0, MAGIC);
     put_u64(buffer, 8, header.commit.0);
-    put_u32(buffer, 16, header.blocks);
+    put_u32(buffer, BLOCKS_AT, header.blocks);
     put_u32(buffer, 20, header.body_len);
     put_bytes(buffer, 32, &header.previous.0);
     put_bytes(buffer, DIGEST_AT, &header.digest.0);
@@ -51,16 +54,9 @@ pub fn read_header(bytes: &[u8]) -> Option<Header>
     }
     Some(Header {
         commit: Commit(u64_at(bytes, 8)),
-        blocks: u32_at(bytes, 16),
+        blocks: u32_at(bytes, BLOCKS_AT),
         body_len: u32_at(bytes, 20),
         previous: digest_at(bytes, 32),
         digest: digest_at(bytes, DIGEST_AT),
     })
-}
-
-/// Whether each byte is zero.
-pub fn is_zero(bytes: &[u8]) -> bool
-    ensures { IsTrue result ↔ (bytes.now ≡ replicate (length bytes.now) 0) }
-{
-    bytes.iter().all(|b| *b == 0)
 }

@@ -4,9 +4,9 @@ ghost use Rattle.std.specs.List.{AllByRecursion};
 ghost use Rattle.sea_top.specs.Record.{IsPiece, piece_bytes, body_bytes, BeginsWith, BeginsWithNone};
 ghost use Rattle.sea_top.specs.RecordParts.{BeginsWithPiece, BeginsWithNoPiece, ArePieces, AreNoPieces, IsSealed};
 
-use crate::record::header::{DIGEST_AT, HEADER_BYTES, Header, is_zero, read_header};
+use crate::record::header::{DIGEST_AT, HEADER_BYTES, Header, read_header};
 use crate::{Piece, Pieces, PlainRecord};
-use sea_base::{BLOCK_BYTES, Data, Name, NameFault, NoMemory, sealed_digest, u32_at};
+use sea_base::{BLOCK_BYTES, Data, Name, NameFault, NoMemory, is_zero, sealed_digest, u32_at};
 use sea_object::OBJECT_BYTES;
 use std::alloc::Global;
 

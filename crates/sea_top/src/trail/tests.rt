@@ -9,20 +9,28 @@ use sea_device::SteadyDevice;
 use std::process::Abort;
 use std::test::Fail;
 
-#[test]
-fn zeros_hold_no_record(rt: HostRuntime) -> Result<(), Fail> {
-    let mut device = SteadyDevice::new(rt.alloc(), 4)?;
-    let trail = read_trail(rt.alloc(), &mut device)?;
-    assert_eq!(rt; trail.end, 0);
-    assert_eq!(rt; trail.commit, 1);
-    assert_eq!(rt; trail.previous, Digest([0; 32]));
-    Ok(())
+// What a device opens to: the trail's end, the next commit number, the last digest, and the bytes of the object `a`.
+fn opened(alloc: Global, device: &mut SteadyDevice) -> Result<(u32, u64, Digest, Vec<u8>), Fail> {
+    let trail = read_trail(alloc, device)?;
+    let bytes = bytes_of_a(alloc, &trail.objects)?;
+    Ok((trail.end, trail.commit, trail.previous, bytes))
+}
+
+// The bytes of the object `a`, none where there is no such object.
+fn bytes_of_a(alloc: Global, objects: &Objects) -> Result<Vec<u8>, Fail> {
+    match objects.get(&Name::new(alloc, b"a")?) {
+        None => Ok(Vec::new(alloc)),
+        Some(object) => Ok(object.bytes().to_vec(alloc)?),
+    }
 }
 
 #[test]
-fn no_blocks_hold_no_record(rt: HostRuntime) -> Result<(), Fail> {
-    let mut device = SteadyDevice::new(rt.alloc(), 0)?;
-    assert_eq!(rt; read_trail(rt.alloc(), &mut device)?.end, 0);
+fn zeros_and_no_blocks_hold_no_record(rt: HostRuntime) -> Result<(), Fail> {
+    for blocks in [0, 4] {
+        let mut device = SteadyDevice::new(rt.alloc(), blocks)?;
+        let (end, commit, previous, bytes) = opened(rt.alloc(), &mut device)?;
+        assert!(rt; end == 0 && commit == 1 && previous == Digest([0; 32]) && bytes.is_empty());
+    }
     Ok(())
 }
 
@@ -53,87 +61,93 @@ fn record(
     })
 }
 
-// Writes a record at a block, and answers its digest.
-fn put(
-    rt: &impl Abort,
-    alloc: Global,
-    device: &mut SteadyDevice,
-    place: u32,
-    plain: &PlainRecord,
-) -> Result<Digest, Fail>
+// The bytes of a record, and its digest.
+fn spelled(alloc: Global, plain: &PlainRecord) -> Result<(Vec<u8>, Digest), Fail>
     requires { IsPlain plain.now }
-    ensures { IfOk result (λ digest. length digest.0 ≡ 32) }
+    ensures { IfOk result (λ made. length made.1.0 ≡ 32) }
 {
     let mut bytes = Vec::new(alloc);
     let digest = push_record(&mut bytes, plain)?;
-    assert_eq!(rt; bytes.len(), BLOCK_BYTES);
-    assert!(rt; place < device.blocks());
-    device.write(Paddr(place), &bytes)?;
-    Ok(digest)
+    Ok((bytes, digest))
+}
+
+// Writes a block.
+fn write(rt: &impl Abort, device: &mut SteadyDevice, place: u32, bytes: &[u8]) -> Result<(), Fail> {
+    assert!(rt; bytes.len() == BLOCK_BYTES && place < device.blocks());
+    Ok(device.write(Paddr(place), bytes)?)
+}
+
+// The first record, `hello` at 0.
+fn hello(alloc: Global) -> Result<(Vec<u8>, Digest), Fail>
+    ensures { IfOk result (λ made. length made.1.0 ≡ 32) }
+{
+    spelled(alloc, &record(alloc, 1, Digest([0; 32]), 0, b"hello")?)
+}
+
+// The second record, `p!!` at 3, which names this digest.
+fn second(alloc: Global, previous: Digest) -> Result<(Vec<u8>, Digest), Fail>
+    requires { length previous.0 ≡ 32 }
+{
+    spelled(alloc, &record(alloc, 2, previous, 3, b"p!!")?)
+}
+
+// A device of four blocks that begins with these two.
+fn begun(
+    rt: &impl Abort,
+    alloc: Global,
+    first: &[u8],
+    second: &[u8],
+) -> Result<SteadyDevice, Fail> {
+    let mut device = SteadyDevice::new(alloc, 4)?;
+    write(rt, &mut device, 0, first)?;
+    write(rt, &mut device, 1, second)?;
+    Ok(device)
 }
 
 #[test]
 fn records_open_to_their_bytes(rt: HostRuntime) -> Result<(), Fail> {
-    let alloc = rt.alloc();
-    let mut device = SteadyDevice::new(alloc, 4)?;
-    let hello = record(alloc, 1, Digest([0; 32]), 0, b"hello")?;
-    let first = put(&rt, alloc, &mut device, 0, &hello)?;
-    let help = record(alloc, 2, first, 3, b"p!!")?;
-    let second = put(&rt, alloc, &mut device, 1, &help)?;
-    let trail = read_trail(alloc, &mut device)?;
-    assert_eq!(rt; trail.end, 2);
-    assert_eq!(rt; trail.commit, 3);
-    assert_eq!(rt; trail.previous, second);
+    let (first, digest) = hello(rt.alloc())?;
+    let (second, digest) = second(rt.alloc(), digest)?;
+    let mut device = begun(&rt, rt.alloc(), &first, &second)?;
+    let (end, commit, previous, bytes) = opened(rt.alloc(), &mut device)?;
+    assert!(rt; end == 2 && commit == 3 && previous == digest);
+    assert!(rt; bytes.as_slice() == b"help!!".as_slice());
 
     // The digest's front as another program computes it from the format.
     let front = [0x6f, 0xaa, 0x67, 0x06, 0x1e, 0xaa, 0x03, 0x49];
-    assert_eq!(rt; &second.0[..8], front.as_slice());
-    let object = trail
-        .objects
-        .get(&Name::new(alloc, b"a")?)
-        .ok_or("no object")?;
-    assert_eq!(rt; object.bytes(), b"help!!".as_slice());
+    assert!(rt; &digest.0[..8] == front.as_slice());
     Ok(())
 }
 
 #[test]
 fn another_digest_ends_the_trail(rt: HostRuntime) -> Result<(), Fail> {
-    let alloc = rt.alloc();
-    let mut device = SteadyDevice::new(alloc, 4)?;
-    let none = Digest([0; 32]);
-    put(
-        &rt,
-        alloc,
-        &mut device,
-        0,
-        &record(alloc, 1, none, 0, b"hello")?,
-    )?;
-    put(
-        &rt,
-        alloc,
-        &mut device,
-        1,
-        &record(alloc, 2, none, 3, b"p!!")?,
-    )?;
-    assert_eq!(rt; read_trail(alloc, &mut device)?.end, 1);
+    let (first, _) = hello(rt.alloc())?;
+    let (second, _) = second(rt.alloc(), Digest([0; 32]))?;
+    let mut device = begun(&rt, rt.alloc(), &first, &second)?;
+    let (end, _, _, _) = opened(rt.alloc(), &mut device)?;
+    assert!(rt; end == 1);
     Ok(())
+}
+
+// The record `hello` with another commit number, and its digest with it.
+fn hello_with_commit(rt: &impl Abort, alloc: Global, commit: u64) -> Result<Vec<u8>, Fail> {
+    let (mut bytes, _) = hello(alloc)?;
+    assert!(rt; bytes.len() == BLOCK_BYTES);
+    put_u64(&mut bytes, 8, commit);
+    bytes[64..96].copy_from_slice(&[0; 32]);
+    let digest = digest_of(&bytes);
+    bytes[64..96].copy_from_slice(&digest.0);
+    Ok(bytes)
 }
 
 #[test]
 fn the_first_commit_number_is_one(rt: HostRuntime) -> Result<(), Fail> {
-    let alloc = rt.alloc();
-    for (commit, end) in [(0, 0), (1, 1), (2, 0)] {
-        let mut bytes = Vec::new(alloc);
-        push_record(&mut bytes, &record(alloc, 1, Digest([0; 32]), 0, b"hello")?)?;
-        assert_eq!(rt; bytes.len(), BLOCK_BYTES);
-        put_u64(&mut bytes, 8, commit);
-        bytes[64..96].copy_from_slice(&[0; 32]);
-        let digest = digest_of(&bytes);
-        bytes[64..96].copy_from_slice(&digest.0);
-        let mut device = SteadyDevice::new(alloc, 1)?;
-        assert_eq!(rt; device.blocks(), 1);
-        device.write(Paddr(0), &bytes)?;
-        assert_eq!(rt; read_trail(alloc, &mut device)?.end, end, "at {commit}");
+    for (commit, want) in [(0, 0), (1, 1), (2, 0)] {
+        let bytes = hello_with_commit(&rt, rt.alloc(), commit)?;
+        let mut device = SteadyDevice::new(rt.alloc(), 1)?;
+        write(&rt, &mut device, 0, &bytes)?;
+        let (end, _, _, _) = opened(rt.alloc(), &mut device)?;
+        assert!(rt; end == want, "at {commit}");
     }
     Ok(())
 }

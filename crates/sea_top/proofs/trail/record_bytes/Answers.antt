@@ -4,7 +4,7 @@ use Rattle.sea_top.specs.declared.record.PlainRecord.{PlainRecord}
 use Rattle.sea_top.specs.Record.{blocks_of}
 use Rattle.sea_top.specs.Trail.{StandsAt}
 use Rattle.sea_top.proofs.Readings.{IfSome-from, IfSome-at, none_behind, first_block, holds_record, stands_within, blocks_of-some}
-use Rattle.sea_top.proofs.Slices.{slice_then}
+use Rattle.sea_base.proofs.Slices.{slice_then}
 use Rattle.sea_top.proofs.trail.record_bytes.Given.{Over}
 use Rattle.sea_top.proofs.trail.record_bytes.Goals as goal
 use Rattle.sea_top.proofs.trail.record_bytes.Goals.{After-u32_at-count, then-count-gt1+in_ok-append_blocks-2, else-count-gt1}

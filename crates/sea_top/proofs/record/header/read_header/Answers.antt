@@ -2,8 +2,8 @@ use Rattle.std.proofs.Common.{◌++◌, List, ℕ, drop, take, length, arith, sy
 use Rattle.std.specs.Prelude.{slice_range}
 use Rattle.std.proofs.lemmas.Bool.{false≢true}
 use Rattle.sea_top.specs.declared.record.header.Header.{Header}
-use Rattle.sea_top.proofs.Slices.{length-slice}
-use Rattle.sea_top.proofs.ReadFields.{header_fields, header_read, differing, equal, zeros_long}
+use Rattle.sea_base.proofs.Slices.{length-slice, differing, equal, zeros_long}
+use Rattle.sea_top.proofs.ReadFields.{header_fields, header_read}
 use Rattle.sea_top.proofs.record.header.read_header.Goals as goal
 use Rattle.sea_top.proofs.record.header.read_header.Goals.{then-bytes-lt-HEADER_BYTES-via-then-bytes-lt-HEADER_BYTES, then-bytes-lt-HEADER_BYTES-via-else-bytes-lt-HEADER_BYTES+then-ne, then-bytes-lt-HEADER_BYTES-via-else-bytes-lt-HEADER_BYTES+else-ne+then-not-is_zero}
 

@@ -6,7 +6,7 @@ use Rattle.sea_base.specs.declared.name.NameFault.{NameFault}
 use Rattle.sea_base.specs.Field.{big_endian}
 use Rattle.sea_top.specs.declared.record.Piece.{Piece}
 use Rattle.sea_top.specs.Record.{piece_bytes}
-use Rattle.sea_top.proofs.Slices.{length-slice}
+use Rattle.sea_base.proofs.Slices.{length-slice}
 use Rattle.sea_top.proofs.ReadFields.{piece_fields, piece_read}
 use Rattle.sea_top.proofs.record.reading.read_piece.Goals as goal
 use Rattle.sea_top.proofs.record.reading.read_piece.Goals.{then-bytes-end-via-then-bytes-end, then-bytes-end-via-else-bytes-end+then-not-is_range}

@@ -1,0 +1,3 @@
+pub mod Entries
+pub mod Node
+pub mod Reading

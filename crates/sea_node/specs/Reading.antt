@@ -1,0 +1,38 @@
+-- What the parts of a node that are read stand for.
+use Rattle.std.specs.Prelude.{◌≡◌, ℕ, ◌-◌, ◌≤◌, List, [], ◌∷◌, ◌++◌, length, drop, replicate, codes}
+use Rattle.std.specs.List.{AllByRecursion}
+use Rattle.sea_base.specs.Name.{IsName}
+use Rattle.sea_node.specs.Entries.{Entry, size, entry_bytes, entries_bytes}
+
+-- what may be an entry, at some level
+abbrev pub IsEntry : Entry → Type 0
+IsEntry e = IsName e.0 × (length e.1 ≤ 1024)
+
+-- the first 32 bytes of a node: the word, the level, and zeros
+unfoldable pub front_bytes : ℕ → List ℕ
+front_bytes level = codes "SNOD" ++ level ∷ [] ++ replicate 27 0
+
+-- the bytes begin as a node of this level does
+abbrev pub BeginsAtLevel : List ℕ → ℕ → Type 0
+BeginsAtLevel bytes level = (level ≤ 7) × (bytes ≡ front_bytes level ++ drop 32 bytes)
+
+abbrev pub BeginsAtNoLevel : List ℕ → Type 0
+BeginsAtNoLevel bytes = (level : ℕ) (rest : List ℕ) → level ≤ 7 → bytes ≡ front_bytes level ++ rest → ⊥
+
+-- the bytes are this entry's and the rest
+abbrev pub BeginsWithEntry : List ℕ → Entry → List ℕ → Type 0
+BeginsWithEntry bytes entry rest = IsEntry entry × (bytes ≡ entry_bytes entry ++ rest)
+
+abbrev pub BeginsWithNoEntry : List ℕ → Type 0
+BeginsWithNoEntry bytes = (entry : Entry) (rest : List ℕ) → BeginsWithEntry bytes entry rest → ⊥
+
+-- the bytes from a place on are this entry's, up to another place in the block
+abbrev pub StandsAt : List ℕ → ℕ → Entry → ℕ → Type 0
+StandsAt bytes at entry end = (end ≤ 4096) × BeginsWithEntry (drop at bytes) entry (drop end bytes)
+
+-- the bytes are those of these entries, and zeros
+abbrev pub AreEntries : List ℕ → List Entry → Type 0
+AreEntries bytes entries = AllByRecursion IsEntry entries × (bytes ≡ entries_bytes entries ++ replicate (length bytes - size entries) 0)
+
+abbrev pub AreNoEntries : List ℕ → Type 0
+AreNoEntries bytes = (entries : List Entry) → AreEntries bytes entries → ⊥

@@ -1,0 +1,101 @@
+//! The parts of a node, read from a block.
+ghost use Rattle.std.specs.Prelude.{◌≡◌, ◌+◌, ◌<◌, ◌≤◌, ◌↔◌, length, drop, All, IfOk, IsTrue, MatchOption};
+ghost use Rattle.std.specs.List.{AllByRecursion};
+ghost use Rattle.sea_node.specs.Entries.{IsRising, size};
+ghost use Rattle.sea_node.specs.Node.{IsNode};
+ghost use Rattle.sea_node.specs.Reading.{IsEntry, BeginsAtLevel, BeginsAtNoLevel, BeginsWithNoEntry, StandsAt, AreEntries, AreNoEntries};
+
+use crate::node::{FRONT_BYTES, MAGIC};
+use sea_base::{BLOCK_BYTES, Block, Data, Key, NoMemory, Pairs, is_zero, u16_at};
+use std::alloc::Global;
+
+const LEVEL_AT: usize = 4;
+
+const LEVELS: u8 = 8;
+
+const VALUE_BYTES: usize = 1024;
+
+const ADDRESS_BYTES: usize = 8;
+
+/// The level of the node that the block begins as.
+pub fn read_level(block: &Block) -> Option<u32>
+    ensures length { length block.now ≡ 4096 }
+    ensures level { MatchOption result (BeginsAtNoLevel block.now) (BeginsAtLevel block.now) }
+{
+    let bytes = block.bytes();
+    let level = bytes[LEVEL_AT];
+    if &bytes[..LEVEL_AT] != MAGIC.as_slice()
+        || level >= LEVELS
+        || !is_zero(&bytes[LEVEL_AT + 1..FRONT_BYTES])
+    {
+        return None;
+    }
+    Some(level as u32)
+}
+
+/// The entries that the block has behind its first bytes, with zeros behind them.
+pub fn read_entries(alloc: Global, block: &Block) -> Result<Option<Pairs>, NoMemory>
+    ensures { IfOk result (λ found. MatchOption found (AreNoEntries (drop 32 block.now)) (AreEntries (drop 32 block.now))) }
+{
+    let bytes = block.bytes();
+    let mut entries = Pairs::new(alloc);
+    let mut at = FRONT_BYTES;
+    while at < BLOCK_BYTES && bytes[at] != 0 {
+        let Some((entry, end)) = read_entry(block, at)? else {
+            return Ok(None);
+        };
+        entries.push(entry)?;
+        at = end;
+    }
+    if !is_zero(&bytes[at..]) {
+        return Ok(None);
+    }
+    Ok(Some(entries))
+}
+
+// The entry that stands at a place, and where it ends.
+fn read_entry(block: &Block, at: usize) -> Result<Option<((Key, Data), usize)>, NoMemory>
+    requires { at < 4096 }
+    ensures { IfOk result (λ found. MatchOption found (BeginsWithNoEntry (drop at block.now)) (λ x. StandsAt block.now at x.0 x.1)) }
+{
+    let bytes = block.bytes();
+    let key_at = at + 3;
+    if key_at > BLOCK_BYTES {
+        return Ok(None);
+    }
+    let value_len = u16_at(bytes, at + 1) as usize;
+    let value_at = key_at + bytes[at] as usize;
+    let end = value_at + value_len;
+    if end > BLOCK_BYTES || value_len > VALUE_BYTES {
+        return Ok(None);
+    }
+    let Some(key) = Key::from_data(block.part(key_at, value_at)?) else {
+        return Ok(None);
+    };
+    let value = block.part(value_at, end)?;
+    Ok(Some(((key, value), end)))
+}
+
+/// Whether entries that fit into a block make a node of this level.
+pub fn is_node(level: u32, entries: &[(Key, Data)]) -> bool
+    requires level { level ≤ 7 }
+    requires entries { AllByRecursion IsEntry entries.now }
+    requires fits { size entries.now ≤ 4064 }
+    ensures { IsTrue result ↔ IsNode level entries.now }
+{
+    !entries.is_empty() && (level == 0 || are_children(entries)) && is_rising(entries)
+}
+
+// Whether there are two entries at least, and the value of each is an address.
+fn are_children(entries: &[(Key, Data)]) -> bool
+    ensures { IsTrue result ↔ ((2 ≤ length entries.now) × All (λ e. length e.1 ≡ 8) entries.now) }
+{
+    entries.len() >= 2 && entries.iter().all(|entry| entry.1.len() == ADDRESS_BYTES)
+}
+
+// Whether the keys rise strictly.
+fn is_rising(entries: &[(Key, Data)]) -> bool
+    ensures { IsTrue result ↔ IsRising entries.now }
+{
+    entries.is_sorted_by(|first, second| first.0 < second.0)
+}

@@ -1,0 +1,73 @@
+use super::*;
+use sea_base::{BLOCK_BYTES, Block, NoMemory};
+use std::alloc::Global;
+use std::test::Fail;
+
+// A block with a level, and bytes from byte 32 on.
+fn block_of(alloc: Global, level: u8, bytes: &[u8]) -> Result<Block, NoMemory> {
+    let mut whole = Vec::new(alloc);
+    whole.extend_from_slice(b"SNOD")?;
+    whole.push(level)?;
+    whole.resize(32, 0)?;
+    whole.extend_from_slice(bytes)?;
+    whole.resize(BLOCK_BYTES, 0)?;
+    Block::from_vec(whole)
+}
+
+fn spells_none(alloc: Global, level: u8, bytes: &[u8]) -> Result<bool, NoMemory> {
+    let block = block_of(alloc, level, bytes)?;
+    Ok(Node::parse(alloc, &block)?.is_none())
+}
+
+// An entry with a value of 300 bytes, and one with none.
+#[test]
+fn a_leaf_is_parsed_and_printed(rt: HostRuntime) -> Result<(), Fail> {
+    let alloc = rt.alloc();
+    let mut bytes = Vec::new(alloc);
+    bytes.extend_from_slice(&[1, 1, 44, b'a'])?;
+    bytes.resize(304, 7)?;
+    bytes.extend_from_slice(&[2, 0, 0, b'a', 0])?;
+    let block = block_of(alloc, 0, &bytes)?;
+    let Some(node) = Node::parse(alloc, &block)? else {
+        return Err(Fail::from("no node"));
+    };
+    let [first, second] = node.entries.items() else {
+        return Err(Fail::from("not two entries"));
+    };
+    assert_eq!(rt; node.level, 0);
+    assert_eq!(rt; first.0.bytes(), b"a".as_slice());
+    assert_eq!(rt; first.1.bytes(), &bytes[4..304]);
+    assert_eq!(rt; second.0.bytes(), b"a\0".as_slice());
+    assert!(rt; second.1.bytes().is_empty());
+    assert_eq!(rt; node.print(alloc)?.bytes(), block.bytes());
+    Ok(())
+}
+
+#[test]
+fn what_is_no_node_is_not_parsed(rt: HostRuntime) -> Result<(), Fail> {
+    let alloc = rt.alloc();
+    assert!(rt; spells_none(alloc, 0, &[])?);
+    assert!(rt; !spells_none(alloc, 0, &[1, 0, 0, b'a'])?);
+    assert!(rt; spells_none(alloc, 8, &[1, 0, 0, b'a'])?);
+    assert!(rt; spells_none(alloc, 0, &[1, 0, 0, b'a', 0, 1])?);
+    assert!(rt; spells_none(alloc, 0, &[1, 0, 0, b'b', 1, 0, 0, b'a'])?);
+    assert!(rt; spells_none(alloc, 0, &[1, 0, 0, b'a', 1, 0, 0, b'a'])?);
+    Ok(())
+}
+
+#[test]
+fn an_inner_node_has_two_children_at_addresses(rt: HostRuntime) -> Result<(), Fail> {
+    let alloc = rt.alloc();
+    let one = [1, 0, 8, b'a', 0, 0, 0, 0, 0, 0, 0, 1];
+    let two = [
+        1, 0, 8, b'a', 0, 0, 0, 0, 0, 0, 0, 1, 1, 0, 8, b'b', 0, 0, 0, 0, 0, 0, 0, 2,
+    ];
+    let short = [
+        1, 0, 8, b'a', 0, 0, 0, 0, 0, 0, 0, 1, 1, 0, 7, b'b', 0, 0, 0, 0, 0, 0, 2,
+    ];
+    assert!(rt; spells_none(alloc, 1, &one)?);
+    assert!(rt; !spells_none(alloc, 1, &two)?);
+    assert!(rt; spells_none(alloc, 1, &short)?);
+    assert!(rt; !spells_none(alloc, 0, &short)?);
+    Ok(())
+}

@@ -1,6 +1,0 @@
-use Rattle.std.proofs.Common.{ap, ◌∙◌, length}
-use Rattle.sea_top.proofs.Sealing.{length-digest_of}
-use Rattle.sea_top.proofs.trail.tests.put.Goals as goal
-
-pub returns : goal.returns
-returns g c = ap length c.in_ok-digest.ensures.ok.1 ∙ length-digest_of c.args.plain.now
