@@ -1,0 +1,87 @@
+-- What the leaf at a way's end tells of the content of a tree.
+use Rattle.std.proofs.Common.{◌≡◌, ℕ, zero, suc, ◌+◌, ◌<◌, Bool, true, false, cond, List, [], ◌∷◌, length, get_or, drop, drop-cons, add-one, Option, Some, None, refl, sym, ap, ◌∙◌, arith}
+use Rattle.std.specs.List.{Contains}
+use Rattle.std.specs.Ordering.{is_eq, eq_by_cmp}
+use Rattle.std.specs.declared.cmp.Ordering.{Ordering}
+use Rattle.std.specs.declared.cmp.Ordering.TheVariants.{Less, Equal, Greater}
+use Rattle.std.specs.FinMap as map
+use Rattle.std.specs.FinMap.Entries.{find}
+use Rattle.sea_base.specs.Space.{Store, Seen, IsKnown, IsSound, Agrees, OnlyRead, laid}
+use Rattle.sea_node.specs.Entries.{Entry, Values, key_order}
+use Rattle.sea_node.proofs.Keys.{same_key, key_order-itself}
+use Rattle.sea_tree.specs.declared.way.Step.{Step}
+use Rattle.sea_tree.specs.declared.way.Way.{Way}
+use Rattle.sea_tree.specs.Tree.{Bounds, root_bounds, LiesWithin}
+use Rattle.sea_tree.specs.Content.{HasContent}
+use Rattle.sea_tree.specs.Place.{meant}
+use Rattle.sea_tree.specs.Way.{IsWay, IsKnownWay}
+use Rattle.sea_tree.proofs.Contents.{only_empty}
+use Rattle.sea_tree.proofs.Holding.{Contains-later}
+use Rattle.sea_tree.proofs.Ways.{leaf_leads, way_laid, laid_same}
+
+contains_found : (q : List ℕ) (es : List Entry) (v : List ℕ) → find key_order q es ≡ Some v → Contains es (q, v)
+contains_found q [] v h = absurd (cc)
+contains_found q (e ∷ es) v h = by (λ rest. contains_found q es v rest) (key_order q e.0) refl h
+  where
+    by : (find key_order q es ≡ Some v → Contains es (q, v)) → (o : Ordering) → key_order q e.0 ≡ o → cond (is_eq o) (Some e.1) (find key_order q es) ≡ Some v → Contains (e ∷ es) (q, v)
+    by rest Less tie h = Contains-later e es (q, v) (rest h)
+    by rest Greater tie h = Contains-later e es (q, v) (rest h)
+    by rest Equal tie h =
+        let key = same_key q e.0 tie in
+        let value : e.1 ≡ v = (cc) in
+        (0, omega arith, λ i. (sym key i, value i))
+
+not_missing : (q : List ℕ) (es : List Entry) (v : List ℕ) (k : ℕ) → k < length es → get_or es k (q, v) ≡ (q, v) → find key_order q es ≡ None → ⊥
+not_missing q [] v k within is none = omega arith
+not_missing q (e ∷ es) v zero within is none =
+    let tie = ap is_eq (ap (key_order q) (ap (λ (e : Entry). e.0) is) ∙ key_order-itself q) in
+    let some : Some e.1 ≡ None = sym (ap (λ (b : Bool). cond b (Some e.1) (find key_order q es)) tie) ∙ none in
+    cc
+not_missing q (e ∷ es) v (suc k) within is none = not_missing q es v k (omega arith) is (by (is_eq (key_order q e.0)) none)
+  where
+    by : (b : Bool) → cond b (Some e.1) (find key_order q es) ≡ None → find key_order q es ≡ None
+    by true h = absurd (cc)
+    by false h = h
+
+-- A leaf has under the keys within its bounds what the tree has.
+pub leaf_find : (s : Store) (level root : ℕ) (steps : List Step) (key : List ℕ) (leaf : ℕ) (es : List Entry) (b : Bounds) (content : Values) → IsWay s level root root_bounds steps key leaf es b → HasContent s root content → (q : List ℕ) → LiesWithin q b → find key_order q es ≡ map.get content q
+leaf_find s level root steps key leaf es b content way holds q lies = by (find key_order q es) refl
+  where
+    none : find key_order q es ≡ None → (y : Option (List ℕ)) → map.get content q ≡ y → None ≡ y
+    none h None e = refl
+    none h (Some v) e =
+        let has = (leaf_leads s level root root_bounds steps key leaf es b q v way lies).0 ((holds.pairs q v).1 e) in
+        absurd (not_missing q es v has.0 has.1 has.2 h)
+
+    by : (x : Option (List ℕ)) → find key_order q es ≡ x → x ≡ map.get content q
+    by (Some v) h = sym ((holds.pairs q v).0 ((leaf_leads s level root root_bounds steps key leaf es b q v way lies).1 (contains_found q es v h)))
+    by None h = none h (map.get content q) refl
+
+module _ (old new : Seen) (root : ℕ) (reads : OnlyRead old new) (sound : IsSound new) (store : Store) (content : Values) (agrees : Agrees store new) (holds : HasContent (laid old store) root content) where
+  pub known_find : (key : List ℕ) (way : Way) → IsKnownWay new root key way → (q : List ℕ) → LiesWithin q (meant way.bounds) → find key_order q way.leaf.entries ≡ map.get content q
+  known_find key way known q lies =
+      leaf_find (laid old store) known.down.top root way.steps.items key way.at.0 way.leaf.entries (meant way.bounds) content (way_laid old new store root key way reads sound agrees known) holds q lies
+
+  pub known_empty : IsKnown new root → new.view root ≡ None → (q : List ℕ) → map.get content q ≡ None
+  known_empty known none q = ap (λ (m : Values). map.get m q) (only_empty (laid old store) root content (sym (laid_same old new store reads sound agrees root known) ∙ none) holds) ∙ map.get-empty key_order q
+
+-- ---- a look through a leaf's entries
+
+find_drop : (q : List ℕ) (es : List Entry) (i : ℕ) (e : Entry) → i < length es → e ≡ get_or es i e → find key_order q (drop i es) ≡ cond (eq_by_cmp key_order q e.0) (Some e.1) (find key_order q (drop (i + 1) es))
+find_drop q es i e within is =
+    let cut : drop i es ≡ get_or es i e ∷ drop (i + 1) es = rw (add-one, drop-cons es i e) in
+    ap (find key_order q) cut ∙ ap (λ (x : Entry). cond (eq_by_cmp key_order q x.0) (Some x.1) (find key_order q (drop (i + 1) es))) (sym is)
+
+pub found_here : (q : List ℕ) (es : List Entry) (i : ℕ) (e : Entry) → i < length es → e ≡ get_or es i e → e.0 ≡ q → find key_order q es ≡ find key_order q (drop i es) → find key_order q es ≡ Some e.1
+found_here q es i e within is key so_far =
+    let tie : eq_by_cmp key_order q e.0 ≡ true = ap is_eq (ap (key_order q) key ∙ key_order-itself q) in
+    so_far ∙ find_drop q es i e within is ∙ ap (λ (b : Bool). cond b (Some e.1) (find key_order q (drop (i + 1) es))) tie
+
+pub passed_here : (q : List ℕ) (es : List Entry) (i : ℕ) (e : Entry) → i < length es → e ≡ get_or es i e → (e.0 ≡ q → ⊥) → find key_order q es ≡ find key_order q (drop i es) → find key_order q es ≡ find key_order q (drop (i + 1) es)
+passed_here q es i e within is other so_far =
+    so_far ∙ find_drop q es i e within is ∙ by (key_order q e.0) refl
+  where
+    by : (o : Ordering) → key_order q e.0 ≡ o → cond (is_eq o) (Some e.1) (find key_order q (drop (i + 1) es)) ≡ find key_order q (drop (i + 1) es)
+    by Less tie = refl
+    by Greater tie = refl
+    by Equal tie = absurd (other (sym (same_key q e.0 tie)))

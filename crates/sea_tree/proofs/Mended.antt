@@ -1,0 +1,166 @@
+-- What the loop of a change needs at each of its turns, and what it ends with.
+use Rattle.std.proofs.Common.{◌≡◌, ◌⊎◌, ℕ, zero, suc, ◌+◌, ◌*◌, ◌<◌, ◌≤◌, ◌^◌, List, [], ◌∷◌, ◌++◌, length, Bool, true, false, Option, Some, None, refl, sym, ◌∙◌, ap, subst, inl, inr, arith, length-append}
+use Rattle.std.specs.Option.{IfSome}
+use Rattle.sea_base.specs.Name.{IsName}
+use Rattle.sea_base.specs.Faults.{IsCause}
+use Rattle.sea_base.specs.Space.{Store, Seen, IsKnown, IsSound, Agrees, laid}
+use Rattle.sea_base.proofs.Spaces.{only_read-refl}
+use Rattle.sea_node.specs.Entries.{Entry, edited, size}
+use Rattle.sea_node.specs.Node.{IsNode}
+use Rattle.sea_tree.specs.declared.edit.Edit.{Edit}
+use Rattle.sea_tree.specs.declared.fault.TreeFault.{TreeFault}
+use Rattle.sea_tree.specs.declared.fault.TreeFault.TheVariants.{Space, Broken}
+use Rattle.sea_tree.specs.declared.way.Step.{Step}
+use Rattle.sea_tree.specs.declared.way.Way.{Way}
+use Rattle.sea_tree.specs.Tree.{Bounds, root_bounds}
+use Rattle.sea_tree.specs.Breaks.{HasNode, IsBroken, Child, BreaksBelow, Breaks, IsFull}
+use Rattle.sea_tree.specs.Calls.{IsChangeFault, IsRootSettleFault}
+use Rattle.sea_tree.specs.Does.{Change, Does}
+use Rattle.sea_tree.specs.Mending.{after_edit, IsNearPlace}
+use Rattle.sea_tree.specs.Changing.{IsPlanned, RootSettled}
+use Rattle.sea_tree.specs.Place.{meant}
+use Rattle.sea_tree.specs.Settled.{IsNearChild, Settled, IsSettleFault}
+use Rattle.sea_tree.specs.Way.{StepsDown, Descends, ComesDown, IsKnownWay}
+use Rattle.sea_tree.proofs.Doing.{Does-read, Does-known, Does-laid, Does-agrees}
+use Rattle.sea_tree.proofs.MendNear.{IsNearPlace-edited}
+use Rattle.sea_tree.proofs.Splits.{middle_within}
+use Rattle.sea_tree.proofs.Ways.{laid_same, Descends-laid, HasNode-same, first_node}
+use Rattle.sea_tree.proofs.WaySteps.{cause_since}
+use Rattle.sea_tree.proofs.Climbs.{Climbs, climbs_begun, Above, step_above, child_near, climbs_up, climbs_done, climbs_rooted}
+
+-- the steps of a way are as many as the levels that it goes down
+descends_by : (s : Store) (level at : ℕ) (bounds : Bounds) (steps : List Step) (key : List ℕ) (n q : ℕ) (b : Bounds) → Descends s level at bounds steps key n q b → level ≡ length steps + n
+descends_by s level at bounds [] key n q b d = omega (arith, d.0)
+descends_by s zero at bounds (step ∷ steps) key n q b d = absurd d
+descends_by s (suc level) at bounds (step ∷ steps) key n q b d = omega (arith, descends_by s level d.0 d.1 steps key n q b d.3)
+
+pub steps_few : (seen : Seen) (root : ℕ) (key : List ℕ) (steps : List Step) (level at : ℕ) (bounds : Bounds) (entries : List Entry) → ComesDown seen root key steps level at bounds entries → length steps + level ≤ 7
+steps_few seen root key steps level at bounds entries down =
+    let first = first_node seen.view down.top root root_bounds steps key level at bounds entries down.descent down.node in
+    omega (arith, descends_by seen.view down.top root root_bounds steps key level at bounds down.descent, first.1.0.spells.node.level_fits)
+
+-- the loop begins
+pub begins : (begun : Seen) (root : ℕ) (key : List ℕ) (value : Option (List ℕ)) (way : Way) → IsSound begun → IsName key → IfSome value (λ v. length v ≤ 1024) → IsKnownWay begun root key way
+    → Climbs begun begun root key value way.steps.items way.leaf.level way.at.0 way.leaf.entries (edited key value way.leaf.entries) [] × (length way.steps.items ≤ 7)
+begins begun root key value way sound name short known =
+    let node : IsNode 0 way.leaf.entries = known.down.node.0.spells.node in
+    let near = IsNearPlace-edited 0 (meant way.bounds) key value way.leaf.entries node known.down.node.1 name short known.down.leads.0 known.down.leads.1 (λ some. absurd (omega (arith, some))) in (
+      climbs_begun begun root key value way sound name short known (Does-read (only_read-refl begun)) near,
+      omega (arith, steps_few begun root key way.steps.items 0 way.at.0 (meant way.bounds) way.leaf.entries known.down),
+    )
+
+-- What a turn needs of its step.
+pub record Turn (step : Step) (level at : ℕ) (after : List Entry) : Type 0 where
+  pub parent : IsNode step.node.level step.node.entries
+  pub level_is : step.node.level ≡ suc level
+  pub within : step.index < length step.node.entries
+  pub child : IsNearChild step level at after
+
+pub turns : (begun now : Seen) (root : ℕ) (key : List ℕ) (value : Option (List ℕ)) (steps init : List Step) (step : Step) (level at : ℕ) (entries after : List Entry) (changes : List Change) → steps ≡ init ++ step ∷ []
+    → Climbs begun now root key value steps level at entries after changes → Turn step level at after × IsNode level entries
+turns begun now root key value steps init step level at entries after changes is climbs0 =
+    let climbs : Climbs begun now root key value (init ++ step ∷ []) level at entries after changes = subst (λ (l : List Step). Climbs begun now root key value l level at entries after changes) is climbs0 in
+    let above = step_above begun root key init step level at climbs.bounds entries climbs.down in
+    let down = above.down in (
+      record {
+        parent = subst (λ (l : ℕ). IsNode l step.node.entries) (sym down.level_is) down.node.0.spells.node;
+        level_is = down.level_is;
+        within = subst (λ (es : List Entry). step.index < length es) (sym down.split.split) (subst (λ (i : ℕ). i < length (down.before ++ down.entry ∷ down.after)) down.split.count (middle_within down.before down.after down.entry));
+        child = child_near begun now root key value init step level at entries after changes climbs;
+      },
+      climbs.down.node.0.spells.node,
+    )
+
+-- and what it comes to
+pub goes_up : (begun now new : Seen) (root : ℕ) (key : List ℕ) (value : Option (List ℕ)) (steps init : List Step) (step : Step) (level at : ℕ) (entries after : List Entry) (changes changes' added : List Change) (edit : Edit)
+    → IsSound begun → now.next < 2 ^ 62 + 2 ^ 47 → steps ≡ init ++ step ∷ [] → Climbs begun now root key value steps level at entries after changes → changes' ≡ added ++ changes → Settled level at after step now new added (Some edit) → Does [] now new
+    → Climbs begun new root key value init step.node.level step.at.0 step.node.entries (after_edit edit step.node.entries) changes'
+goes_up begun now new root key value steps init step level at entries after changes changes' added edit sound small is climbs0 plans settled goes =
+    let climbs : Climbs begun now root key value (init ++ step ∷ []) level at entries after changes = subst (λ (l : List Step). Climbs begun now root key value l level at entries after changes) is climbs0 in
+    let above = step_above begun root key init step level at climbs.bounds entries climbs.down in
+    let up = climbs_up begun now new root key value init step level at entries after changes added edit sound small climbs settled goes in
+    subst (λ (l : ℕ). Climbs begun new root key value init l step.at.0 step.node.entries (after_edit edit step.node.entries) changes') (sym above.down.level_is)
+    (subst (Climbs begun new root key value init (suc level) step.at.0 step.node.entries (after_edit edit step.node.entries)) (sym plans) up)
+
+pub ends : (begun now new : Seen) (root : ℕ) (key : List ℕ) (value : Option (List ℕ)) (steps init : List Step) (step : Step) (level at : ℕ) (entries after : List Entry) (changes changes' added : List Change)
+    → IsSound begun → now.next < 2 ^ 62 + 2 ^ 47 → steps ≡ init ++ step ∷ [] → Climbs begun now root key value steps level at entries after changes → changes' ≡ added ++ changes → Settled level at after step now new added None → Does [] now new
+    → IsPlanned root key value begun new changes'
+ends begun now new root key value steps init step level at entries after changes changes' added sound small is climbs0 plans settled goes =
+    let climbs : Climbs begun now root key value (init ++ step ∷ []) level at entries after changes = subst (λ (l : List Step). Climbs begun now root key value l level at entries after changes) is climbs0 in
+    subst (IsPlanned root key value begun new) (sym plans) (climbs_done begun now new root key value init step level at entries after changes added sound small climbs settled goes)
+
+-- ---- at the root
+
+-- What settling the root needs.
+pub record AtRoot (now : Seen) (root level at : ℕ) (entries after : List Entry) : Type 0 where
+  pub known : IsKnown now root
+  pub node : HasNode now.view level root root_bounds entries
+  pub near : IsNearPlace level root_bounds after
+
+pub comes_to_root : (begun now : Seen) (root : ℕ) (key : List ℕ) (value : Option (List ℕ)) (steps : List Step) (level at : ℕ) (entries after : List Entry) (changes : List Change) → steps ≡ [] → Climbs begun now root key value steps level at entries after changes → AtRoot now root level at entries after
+comes_to_root begun now root key value steps level at entries after changes none climbs0 =
+    let climbs : Climbs begun now root key value [] level at entries after changes = subst (λ (l : List Step). Climbs begun now root key value l level at entries after changes) none climbs0 in
+    let place : at ≡ root = sym climbs.down.descent.1 in
+    let asked : climbs.bounds ≡ root_bounds = sym climbs.down.descent.2 in
+    let known : IsKnown begun root = subst (IsKnown begun) place climbs.down.known in
+    let node : HasNode begun.view level root root_bounds entries = subst (λ (b : Bounds). HasNode begun.view level root b entries) asked (subst (λ (q : ℕ). HasNode begun.view level q climbs.bounds entries) place climbs.down.node) in
+    record {
+      known = Does-known [] climbs.reads root known;
+      node = HasNode-same begun begun.view now.view (λ q k. sym (climbs.reads.view q (inr k))) level root root_bounds entries known node;
+      near = subst (λ (b : Bounds). IsNearPlace level b after) asked climbs.near;
+    }
+
+pub roots : (begun now new : Seen) (root : ℕ) (key : List ℕ) (value : Option (List ℕ)) (steps : List Step) (level at : ℕ) (entries after : List Entry) (changes changes' added : List Change) → now.next < 2 ^ 62 + 2 ^ 47 → steps ≡ []
+    → Climbs begun now root key value steps level at entries after changes → changes' ≡ added ++ changes → RootSettled level root after now new changes added → Does [] now new → IsPlanned root key value begun new changes'
+roots begun now new root key value steps level at entries after changes changes' added small none climbs0 plans settled goes =
+    let climbs : Climbs begun now root key value [] level at entries after changes = subst (λ (l : List Step). Climbs begun now root key value l level at entries after changes) none climbs0 in
+    subst (IsPlanned root key value begun new) (sym plans) (climbs_rooted begun now new root key value level at entries after changes added small climbs settled goes)
+
+-- ---- faults
+
+-- a child of a node at the end of a way that is no node in its place breaks the tree
+broken_beside : (s : Store) (level at : ℕ) (bounds : Bounds) (steps : List Step) (key : List ℕ) (n q : ℕ) (b : Bounds) (es front back : List Entry) (child : ℕ) (asked : Bounds) → Descends s level at bounds steps key (suc n) q b → HasNode s (suc n) q b es → Child es b.upper front back child asked → IsBroken s n child asked → BreaksBelow s level at bounds child
+broken_beside s zero at bounds [] key n q b es front back child asked d node is broken = absurd (omega (arith, d.0))
+broken_beside s (suc level) at bounds [] key n q b es front back child asked d node is broken =
+    let levels : level ≡ n = omega (arith, d.0) in
+    let here : HasNode s (suc level) at bounds es = subst (λ (l : ℕ). HasNode s (suc l) at bounds es) (sym levels) (subst (λ (x : ℕ). HasNode s (suc n) x bounds es) (sym d.1) (subst (λ (c : Bounds). HasNode s (suc n) q c es) (sym d.2) node)) in
+    let beside : Child es bounds.upper front back child asked = subst (λ (c : Bounds). Child es c.upper front back child asked) (sym d.2) is in
+    inr (es, here, (front, back, child, asked, beside, broken_here level (subst (λ (l : ℕ). IsBroken s l child asked) (sym levels) broken)))
+  where
+    broken_here : (l : ℕ) → IsBroken s l child asked → BreaksBelow s l child asked child
+    broken_here zero broken = (refl, broken)
+    broken_here (suc l) broken = inl (refl, broken)
+broken_beside s zero at bounds (step ∷ steps) key n q b es front back child asked d node is broken = absurd d
+broken_beside s (suc level) at bounds (step ∷ steps) key n q b es front back child asked d node is broken =
+    let below = broken_beside s level d.0 d.1 steps key n q b es front back child asked d.3 node is broken in
+    let down = d.2 in
+    inr (step.node.entries, down.node, (down.before, down.after, d.0, d.1, record { entry = down.entry; split = down.split.split; address = down.address; bounds_are = down.below_is }, below))
+
+module _ (begun now new : Seen) (root : ℕ) (key : List ℕ) (value : Option (List ℕ)) (steps init : List Step) (step : Step) (level at : ℕ) (entries after : List Entry) (changes : List Change)
+    (sound : IsSound begun) (is : steps ≡ init ++ step ∷ []) (climbs0 : Climbs begun now root key value steps level at entries after changes) (before mid then : ℕ) (tells told : Bool) (later : before ≤ mid) (same : told ≡ tells) where
+  pub settle_fault : (fault : TreeFault) → IsSettleFault level step now new mid then told fault → IsChangeFault root begun new before then tells fault
+  settle_fault (Space fault) cause = cause_since before mid then tells told fault later same cause
+  settle_fault (Broken broken) found = λ store agrees.
+      let climbs : Climbs begun now root key value (init ++ step ∷ []) level at entries after changes = subst (λ (l : List Step). Climbs begun now root key value l level at entries after changes) is climbs0 in
+      let above = step_above begun root key init step level at climbs.bounds entries climbs.down in
+      let agrees_now : Agrees store now = Does-agrees [] (Does-read found.0) store agrees in
+      let agrees_begun : Agrees store begun = Does-agrees [] climbs.reads store agrees_now in
+      let there = Descends-laid begun begun store root key init (suc level) step.at.0 above.asked step.node.entries (only_read-refl begun) sound agrees_begun above.comes in
+      let beside : Child step.node.entries above.asked.upper found.1.0 found.1.1 broken.0 found.1.2 = subst (λ (u : Option (List ℕ)). Child step.node.entries u found.1.0 found.1.1 broken.0 found.1.2) above.down.upper_is found.1.3 in
+      let unread : IsBroken (laid begun store) level broken.0 found.1.2 = λ es node place. found.1.4 store agrees es (record { bytes = node.bytes; here = Does-laid [] climbs.reads store broken.0 ∙ node.here; spells = node.spells }) place in
+      let first = first_node (laid begun store) above.comes.top root root_bounds init key (suc level) step.at.0 above.asked step.node.entries there.0 there.1 in
+      inl (
+        (λ none. (let clash : Some first.1.0.bytes ≡ None = sym first.1.0.here ∙ none in absurd (cc))),
+        inr (above.comes.top, (first.0, first.1), broken_beside (laid begun store) above.comes.top root root_bounds init key level step.at.0 above.asked step.node.entries found.1.0 found.1.1 broken.0 found.1.2 there.0 there.1 beside unread),
+      )
+
+pub root_fault : (begun now new : Seen) (root before mid then : ℕ) (tells told : Bool) → Does [] begun now → before ≤ mid → told ≡ tells → (fault : TreeFault) → IsRootSettleFault root now new mid then told fault → IsChangeFault root begun new before then tells fault
+root_fault begun now new root before mid then tells told reads later same (Space fault) cause = cause_since before mid then tells told fault later same cause
+root_fault begun now new root before mid then tells told reads later same (Broken broken) found = λ store agrees.
+    let full = found.1 store agrees in
+    inr (found.0, (full.0, record { bytes = full.1.bytes; here = sym (Does-laid [] reads store root) ∙ full.1.here; spells = full.1.spells }, full.2))
+
+-- no step is left
+pub nothing_left : (steps : List Step) → (0 < length steps → false ≡ true) → steps ≡ []
+nothing_left [] none = refl
+nothing_left (step ∷ steps) none = absurd (let clash : false ≡ true = none (omega arith) in cc)

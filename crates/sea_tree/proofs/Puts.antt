@@ -1,0 +1,126 @@
+-- What a change of one pair does, from its reads to its writes.
+use Rattle.std.proofs.Common.{◌≡◌, ◌≢◌, ◌⊎◌, ℕ, ◌+◌, ◌<◌, ◌≤◌, ◌^◌, List, [], ◌∷◌, ◌++◌, Bool, true, false, cond, Option, Some, None, length, refl, sym, ◌∙◌, ap, subst, inl, inr, arith}
+use Rattle.std.proofs.Math.Path.{fun_ext}
+use Rattle.std.specs.FinMap as map
+use Rattle.std.specs.FinMap.{same_map, get-remove}
+use Rattle.std.specs.Ordering.{eq_by_cmp, is_eq}
+use Rattle.std.specs.declared.cmp.Ordering.{Ordering}
+use Rattle.std.specs.declared.cmp.Ordering.TheVariants.{Less, Equal, Greater}
+use Rattle.sea_base.specs.Name.{IsName}
+use Rattle.sea_base.specs.Faults.{IsCause}
+use Rattle.sea_base.specs.Space.{Store, Seen, IsKnown, IsSound, Agrees, laid, OnlyRead}
+use Rattle.sea_base.proofs.Spaces.{laid_known, agrees_before}
+use Rattle.sea_node.specs.Entries.{Entry, Values, key_order}
+use Rattle.sea_node.specs.Node.{node_bytes}
+use Rattle.sea_node.proofs.Keys.{key_order_total, same_key}
+use Rattle.sea_tree.specs.declared.fault.TreeFault.{TreeFault}
+use Rattle.sea_tree.specs.declared.fault.TreeFault.TheVariants.{Space, Broken}
+use Rattle.sea_tree.specs.Tree.{IsNodeOf}
+use Rattle.sea_tree.specs.Content.{HasContent}
+use Rattle.sea_tree.specs.Breaks.{Breaks, IsFull, FillsFewer}
+use Rattle.sea_tree.specs.Calls.{Meets, Becomes, IsWayFault, IsChangeFault, IsWholeWay, IsOfSpace}
+use Rattle.sea_tree.specs.Does.{Change, overlaid, Does, ChangesAtMost}
+use Rattle.sea_tree.specs.Changing.{Changed, changed_content, IsPlanned}
+use Rattle.sea_tree.proofs.Counting.{full_refuted}
+use Rattle.sea_tree.proofs.Doing.{Does-read, Does-agrees, Does-laid, overlaid-same, ChangesAtMost-read, ChangesAtMost-then}
+use Rattle.sea_tree.proofs.Holding.{whole_tree, breaks_from_way}
+use Rattle.sea_tree.proofs.MendRoot.{planted}
+use Rattle.sea_tree.proofs.MendSides.{puts_one}
+use Rattle.sea_tree.proofs.Mending.{becomes_changed}
+use Rattle.sea_tree.proofs.Walks.{one_store}
+use Rattle.sea_tree.proofs.WaySteps.{cause_since}
+
+-- ---- faults
+
+pub way_fault : (root : ℕ) (key : List ℕ) (old new : Seen) (before now : ℕ) (tells : Bool) (fault : TreeFault) → IsWayFault root key old new before now tells fault → IsChangeFault root old new before now tells fault
+way_fault root key old new before now tells (Space fault) cause = cause
+way_fault root key old new before now tells (Broken at) found = λ store agrees. inl (breaks_from_way (laid old store) key root at.0 (found store agrees))
+
+pub fault_since : (root : ℕ) (old mid new : Seen) (before then now : ℕ) (tells told : Bool) → OnlyRead old mid → before ≤ then → told ≡ tells → (fault : TreeFault) → IsChangeFault root mid new then now told fault → IsChangeFault root old new before now tells fault
+fault_since root old mid new before then now tells told reads later same (Space fault) cause = cause_since before then now tells told fault later same cause
+fault_since root old mid new before then now tells told reads later same (Broken at) found = λ store agrees.
+    subst (λ (s : Store). Breaks s root at.0 ⊎ ((at.0 ≡ root) × IsFull s root)) (one_store reads store) (found store agrees)
+
+-- a tree that is well formed on fewer than 2^25 filled addresses gives a fault of the space alone
+pub of_space : (root : ℕ) (old new : Seen) (before now : ℕ) (tells : Bool) (fault : TreeFault) → IsChangeFault root old new before now tells fault → (store : Store) (content : Values) → Meets store root old new content → FillsFewer (laid old store) (2 ^ 25) → IsOfSpace fault
+of_space root old new before now tells (Space fault) cause store content meets few = tt
+of_space root old new before now tells (Broken at) found store content meets few = by (found store meets.agrees)
+  where
+    by : Breaks (laid old store) root at.0 ⊎ ((at.0 ≡ root) × IsFull (laid old store) root) → ⊥
+    by (inl breaks) = whole_tree (laid old store) root at.0 meets.content.tree breaks
+    by (inr full) = full_refuted (laid old store) root content meets.content full.1 few
+
+-- ---- what is changed
+
+-- The reads, the plan and its writes, one after the other.
+pub record Run (old mid planned new : Seen) (changes : List Change) : Type 0 where
+  pub reads : OnlyRead old mid
+  pub plans : Does [] mid planned
+  pub writes : Does changes planned new
+  pub next : new.next ≡ planned.next
+
+pub run_becomes : (root : ℕ) (key : List ℕ) (value : Option (List ℕ)) (old mid planned new : Seen) (changes : List Change) → Run old mid planned new changes → IsPlanned root key value mid planned changes
+    → (store : Store) (content : Values) → Meets store root old new content → Becomes store root old new (changed_content key value content)
+run_becomes root key value old mid planned new changes run plans store content meets =
+    let was : laid mid store ≡ laid old store = one_store run.reads store in
+    let is : laid new store ≡ overlaid changes (laid mid store) = fun_ext (λ q. Does-laid changes run.writes store q ∙ overlaid-same changes (laid planned store) (laid mid store) q (Does-laid [] run.plans store q)) in
+    let meets_mid : Meets store root mid planned content = record {
+      agrees = Does-agrees changes run.writes store meets.agrees;
+      content = subst (λ (s : Store). HasContent s root content) (sym was) meets.content;
+      fresh = λ q from below. subst (λ (s : Store). s q ≡ None) (sym was) (meets.fresh q (omega (arith, from, run.reads.next)) (omega (arith, below, run.next)));
+    } in
+    let changed = plans store content meets_mid in
+    let after = changed_content key value content in
+    let one : Changed (laid mid store) (laid new store) root mid.next planned.next after = subst (λ (s : Store). Changed (laid mid store) s root mid.next planned.next after) (sym is) changed in
+    let two : Changed (laid old store) (laid new store) root mid.next planned.next after = subst (λ (s : Store). Changed s (laid new store) root mid.next planned.next after) was one in
+    let three : Changed (laid old store) (laid new store) root old.next planned.next after = subst (λ (n : ℕ). Changed (laid old store) (laid new store) root n planned.next after) run.reads.next two in
+    becomes_changed store root old new after (subst (λ (n : ℕ). Changed (laid old store) (laid new store) root old.next n after) (sym run.next) three)
+
+-- the first pair of a tree
+pub plants : (root : ℕ) (key value : List ℕ) (mid : Seen) (changes : List Change) → IsSound mid → IsKnown mid root → mid.view root ≡ None → IsName key → length value ≤ 1024 → changes ≡ (root, Some (node_bytes 0 ((key, value) ∷ []))) ∷ [] → IsPlanned root key (Some value) mid mid changes
+plants root key value mid changes sound known none name short planned_is store before meets =
+    let empty : laid mid store root ≡ None = laid_known mid store sound meets.agrees root known ∙ none in
+    planted (laid mid store) (overlaid changes (laid mid store)) root mid.next mid.next key value before meets.content empty name short (λ q from below. absurd (omega (arith, from, below)))
+    (puts_one (laid mid store) (overlaid changes (laid mid store)) root (Some (node_bytes 0 ((key, value) ∷ []))) (λ q. ap (λ (cs : List Change). overlaid cs (laid mid store) q) planned_is))
+
+-- Where the key is absent nothing changes.
+pub nothing_changes : (root : ℕ) (key : List ℕ) (old new : Seen) → OnlyRead old new → (store : Store) (content : Values) → Meets store root old new content → map.get content key ≡ None → Becomes store root old new (map.remove content key)
+nothing_changes root key old new reads store content meets absent =
+    let same : laid new store ≡ laid old store = one_store reads store in
+    let content_same : content ≡ map.remove content key = same_map key_order_total same_key content (map.remove content key) (λ q. kept (eq_by_cmp key_order q key) q refl ∙ sym (get-remove key_order_total content key q)) in
+    record {
+      content = subst (λ (c : Values). HasContent (laid new store) root c) content_same (subst (λ (s : Store). HasContent s root content) (sym same) meets.content);
+      elsewhere = λ at other outside apart. ap (λ (s : Store). s at) same;
+      nodes = λ at node. inr (inl (subst (λ (s : Store). IsNodeOf s root at) same node));
+      others = λ other kept_content differs has apart old_root. subst (λ (s : Store). HasContent s other kept_content) (sym same) has;
+    }
+  where
+    kept : (b : Bool) (q : List ℕ) → eq_by_cmp key_order q key ≡ b → map.get content q ≡ cond (eq_by_cmp key_order q key) None (map.get content q)
+    kept true q is = same_there q is ∙ sym (ap (λ (b : Bool). cond b None (map.get content q)) is)
+      where
+        same_there : (q : List ℕ) → eq_by_cmp key_order q key ≡ true → map.get content q ≡ None
+        same_there q is = ap (λ (k : List ℕ). map.get content k) (same_key q key (equal_key (key_order q key) is)) ∙ absent
+          where
+            equal_key : (o : Ordering) → is_eq o ≡ true → o ≡ Equal
+            equal_key Less e = absurd (cc)
+            equal_key Equal e = refl
+            equal_key Greater e = absurd (cc)
+    kept false q is = sym (ap (λ (b : Bool). cond b None (map.get content q)) is)
+
+-- ---- how much
+
+pub nothing_few : {old new : Seen} → Does [] old new → ChangesAtMost 0 old new
+nothing_few d = ([], omega arith, λ at. inr (inr (record { changed = d.changed at; view = λ c. d.view at (inr (inl c)) })))
+
+pub fewer : {old new : Seen} (m n : ℕ) → m ≤ n → ChangesAtMost m old new → ChangesAtMost n old new
+fewer m n le few = (few.0, omega (arith, few.1, le), few.2)
+
+pub run_few : (old mid planned new : Seen) (changes : List Change) (count : ℕ) → Run old mid planned new changes → count ≤ 17 → ChangesAtMost count planned new → ChangesAtMost 17 old new
+run_few old mid planned new changes count run le few =
+    fewer (count + (0 + 0)) 17 (omega (arith, le)) (ChangesAtMost-then (0 + 0) count (ChangesAtMost-then 0 0 (ChangesAtMost-read run.reads) (nothing_few run.plans)) few)
+
+pub run_whole : (root : ℕ) (key : List ℕ) (old mid planned new : Seen) (changes : List Change) → Run old mid planned new changes → IsWholeWay root key old mid → IsWholeWay root key old new
+run_whole root key old mid planned new changes run whole store at agrees = whole store at (Does-agrees [] run.plans store (Does-agrees changes run.writes store agrees))
+
+pub run_agrees : (old mid planned new : Seen) (changes : List Change) → Run old mid planned new changes → (store : Store) → Agrees store new → Agrees store mid
+run_agrees old mid planned new changes run store agrees = Does-agrees [] run.plans store (Does-agrees changes run.writes store agrees)

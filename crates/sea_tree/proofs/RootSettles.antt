@@ -1,0 +1,158 @@
+-- Settling a root: what a plan leaves at an address, and what the root is settled to.
+use Rattle.std.proofs.Common.{◌≡◌, inl, inr, ℕ, zero, suc, ◌+◌, ◌<◌, ◌≤◌, ◌==◌, ◌||◌, Bool, true, false, cond, List, [], ◌∷◌, ◌++◌, length, get_or, take, map, reverse, Option, Some, None, refl, sym, ap, subst, ◌∙◌, arith, add-one}
+use Rattle.std.specs.declared.result.Result.{Result}
+use Rattle.std.specs.declared.result.Result.TheVariants.{Ok, Err}
+use Rattle.std.specs.Result.{IfOk, OnOk}
+use Rattle.std.proofs.lemmas.Bool.{true≢false}
+use Rattle.std.proofs.lemmas.List.{map-append, reverse-append, take_all}
+use Rattle.sea_base.specs.Space.{Store, Seen, IsKnown, IsSound, Agrees, laid, OnlyRead}
+use Rattle.sea_base.proofs.Spaces.{laid_known, laid-only_read}
+use Rattle.sea_node.specs.declared.node.Node.{Node}
+use Rattle.sea_node.specs.Entries.{Entry, size}
+use Rattle.sea_node.specs.Node.{IsNode, node_bytes}
+use Rattle.sea_tree.specs.declared.plan.Write.{Write}
+use Rattle.sea_tree.specs.Tree.{root_bounds, IsAddress}
+use Rattle.sea_tree.specs.Mending.{IsNearPlace}
+use Rattle.sea_tree.specs.Settled.{AreHalves}
+use Rattle.sea_tree.specs.Changing.{root_entries, RootSplits, RootSinks, RootSettled}
+use Rattle.sea_tree.specs.Does.{Change, overlaid, is_among}
+use Rattle.sea_tree.specs.Plan.{change_of, changes_of}
+use Rattle.sea_tree.proofs.Doing.{overlaid-apart}
+use Rattle.sea_tree.proofs.MendNear.{halves, IsNode-near}
+use Rattle.sea_tree.proofs.MendRoot.{IsNode-root}
+
+-- ---- what stands at an address once a plan is carried out
+
+changes_reversed : (plan : List Write) → changes_of plan ≡ map change_of (reverse plan)
+changes_reversed [] = refl
+changes_reversed (w ∷ plan) =
+    reverse-append (change_of w ∷ []) (map change_of plan)
+    ∙ ap (λ (cs : List Change). cs ++ change_of w ∷ []) (changes_reversed plan)
+    ∙ sym (map-append change_of (reverse plan) (w ∷ []))
+    ∙ ap (map change_of) (sym (reverse-append (w ∷ []) plan))
+
+module _ (at : ℕ) where
+  -- none of so many writes is of the address
+  abbrev pub Passes : List Write → ℕ → Type 0
+  Passes writes n = is_among (map change_of (take n writes)) at ≡ false
+
+  pub passes_more : (writes : List Write) (n : ℕ) (w : Write) → n < length writes → w ≡ get_or writes n w → (at == (change_of w).0) ≡ false → Passes writes n → Passes writes (suc n)
+  passes_more [] n w within is apart passes = absurd (omega arith)
+  passes_more (x ∷ writes) zero w within is apart passes =
+      ap (λ (v : Write). at == (change_of v).0 || false) (sym is) ∙ ap (λ (b : Bool). b || false) apart
+  passes_more (x ∷ writes) (suc n) w within is apart passes =
+      elim (at == (change_of x).0) as (λ b. (b || is_among (map change_of (take n writes)) at) ≡ false → (b || is_among (map change_of (take (suc n) writes)) at) ≡ false) [
+        | true ↦ λ e. e
+        | false ↦ λ e. passes_more writes n w (omega arith) is apart e
+      ] passes
+
+  module _ (store : Store) where
+    stands : (writes : List Write) (n : ℕ) (w : Write) → n < length writes → w ≡ get_or writes n w → (at == (change_of w).0) ≡ true → Passes writes n → overlaid (map change_of writes) store at ≡ (change_of w).1
+    stands [] n w within is here passes = absurd (omega arith)
+    stands (x ∷ writes) zero w within is here passes =
+        ap (λ (v : Write). cond (at == (change_of v).0) (change_of v).1 (overlaid (map change_of writes) store at)) (sym is)
+        ∙ ap (λ (b : Bool). cond b (change_of w).1 (overlaid (map change_of writes) store at)) here
+    stands (x ∷ writes) (suc n) w within is here passes =
+        elim (at == (change_of x).0) as (λ b. (b || is_among (map change_of (take n writes)) at) ≡ false → cond b (change_of x).1 (overlaid (map change_of writes) store at) ≡ (change_of w).1) [
+          | true ↦ λ e. absurd (true≢false e)
+          | false ↦ λ e. stands writes n w (omega arith) is here e
+        ] passes
+
+    -- the last write of the address stands there
+    pub planned_last : (plan : List Write) (n : ℕ) (w : Write) → n < length (reverse plan) → w ≡ get_or (reverse plan) n w → (at == (change_of w).0) ≡ true → Passes (reverse plan) n → (change_of w).1 ≡ overlaid (changes_of plan) store at
+    planned_last plan n w within is here passes =
+        sym (ap (λ (cs : List Change). overlaid cs store at) (changes_reversed plan) ∙ stands (reverse plan) n w within is here passes)
+
+    -- without one, what stood there does
+    pub planned_none : (plan : List Write) (n : ℕ) → length (reverse plan) ≤ n → Passes (reverse plan) n → overlaid (changes_of plan) store at ≡ store at
+    planned_none plan n all passes =
+        ap (λ (cs : List Change). overlaid cs store at) (changes_reversed plan)
+        ∙ overlaid-apart (map change_of (reverse plan)) store at (subst (λ (writes : List Write). is_among (map change_of writes) at ≡ false) (take_all n (reverse plan) all) passes)
+
+pub if_ok_both : {X Y : Type 0} (r : Result X Y) (P : X → Type 0) (Q : Type 0) (R : X → Type 0) → ((x : X) → P x → Q → R x) → IfOk r P → OnOk r Q → IfOk r R
+if_ok_both (Ok x) P Q R f p q = f x p q
+if_ok_both (Err e) P Q R f p q = tt
+
+-- what was read at an address stood there before the reads, on each store that agrees
+pub laid_read : (old new : Seen) (at : ℕ) → OnlyRead old new → IsSound new → IsKnown new at → (store : Store) → Agrees store new → new.view at ≡ laid old store at
+laid_read old new at r sound known store agrees = sym (laid_known new store sound agrees at known) ∙ laid-only_read r store at
+
+-- one write more
+pub changes_push : (plan : List Write) (w : Write) → changes_of (plan ++ w ∷ []) ≡ change_of w ∷ changes_of plan
+changes_push plan w = ap (λ (cs : List Change). reverse cs) (map-append change_of plan (w ∷ [])) ∙ reverse-append (map change_of plan) (change_of w ∷ [])
+
+-- ---- the root
+
+-- what is planned behind what was planned before
+abbrev pub Planned : List Change → List Change → (List Change → Type 0) → Type 0
+Planned before after P = (changes : List Change) × (after ≡ changes ++ before) × P changes
+
+module _ (level root : ℕ) (entries : List Entry) (near : IsNearPlace level root_bounds entries) where
+  pub root_fits : (seen : Seen) (before after : List Change) → 1 ≤ length entries → (1 ≤ level → 2 ≤ length entries) → size entries ≤ 4064 → after ≡ (root, Some (node_bytes level entries)) ∷ before → Planned before after (RootSettled level root entries seen seen before)
+  root_fits seen before after some two fits planned = (
+    (root, Some (node_bytes level entries)) ∷ [],
+    planned,
+    inl (record { node = IsNode-near level root_bounds entries near some two fits; planned = refl; next = refl }),
+  )
+
+  none_below : (n : ℕ) → (1 ≤ n → 1 ≤ length entries) → length entries ≡ 0 → n ≡ 0
+  none_below zero some none = refl
+  none_below (suc n) some none = absurd (let one = some (omega arith) in omega arith)
+
+  no_entries : (es : List Entry) → length es ≡ 0 → es ≡ []
+  no_entries [] none = refl
+  no_entries (e ∷ es) none = absurd (omega arith)
+
+  pub root_empties : (seen : Seen) (before after : List Change) → length entries ≡ 0 → after ≡ (root, None) ∷ before → Planned before after (RootSettled level root entries seen seen before)
+  root_empties seen before after none planned = (
+    (root, None) ∷ [],
+    planned,
+    inr (inr (inr (record { leaf = none_below level (λ h. (near.first h).0) none; empty = no_entries entries none; planned = refl; next = refl }))),
+  )
+
+  module _ (front back : Node) (are : AreHalves level entries front back) (low : level < 7) (over : List Entry) (first : ℕ) (is_over : over ≡ root_entries first back.entries) where
+    -- the root over two halves is a node
+    pub node_over : IsNode (level + 1) over
+    node_over =
+        let parts = halves level root_bounds front.entries back.entries (subst (IsNearPlace level root_bounds) are.cut near) are.front_part are.back_part in
+        let node = IsNode-root level first back.entries low parts.name parts.above in
+        subst (λ (l : ℕ). IsNode l over) (sym (add-one level)) (subst (IsNode (suc level)) (sym is_over) node)
+
+    pub root_splits : (old new : Seen) (before one two three : List Change) → first ≡ old.next → new.next ≡ old.next + 2 → one ≡ (first, Some (node_bytes front.level front.entries)) ∷ before → two ≡ (first + 1, Some (node_bytes back.level back.entries)) ∷ one → three ≡ (root, Some (node_bytes (level + 1) over)) ∷ two → Planned before three (RootSplits level root entries old new)
+    root_splits old new before one two three is_first next is_one is_two is_three =
+        let whole : over ≡ root_entries old.next back.entries = is_over ∙ ap (λ (n : ℕ). root_entries n back.entries) is_first in (
+          (root, Some (node_bytes (level + 1) over)) ∷ (first + 1, Some (node_bytes back.level back.entries)) ∷ (first, Some (node_bytes front.level front.entries)) ∷ [],
+          is_three ∙ ap (λ (cs : List Change). (root, Some (node_bytes (level + 1) over)) ∷ cs) (is_two ∙ ap (λ (cs : List Change). (first + 1, Some (node_bytes back.level back.entries)) ∷ cs) is_one),
+          record {
+            front = front.entries;
+            back = back.entries;
+            low = low;
+            cut = are.cut;
+            front_part = are.front_part;
+            back_part = are.back_part;
+            planned = λ j. (root, Some (node_bytes (add-one level j) (whole j))) ∷ (is_first j + 1, Some (node_bytes (are.back_level j) back.entries)) ∷ (is_first j, Some (node_bytes (are.front_level j) front.entries)) ∷ [];
+            next = next;
+          },
+        )
+
+-- the root takes what is to stand at its one child
+pub root_sinks : (level root : ℕ) (entries : List Entry) (first : Entry) (child : ℕ) (block : Option (List ℕ)) (old new : Seen) (before one two : List Change) → 1 ≤ level → length entries ≡ 1 → IsAddress (get_or entries 0 first).1 child → ((store : Store) → Agrees store new → block ≡ overlaid before (laid old store) child) → one ≡ (root, block) ∷ before → two ≡ (child, None) ∷ one → new.next ≡ old.next → Planned before two (RootSinks level root entries old new before)
+root_sinks zero root entries first child block old new before one two above alone address stands is_one is_two next = absurd (omega arith)
+root_sinks (suc below) root [] first child block old new before one two above alone address stands is_one is_two next = absurd (omega arith)
+root_sinks (suc below) root (only ∷ []) first child block old new before one two above alone address stands is_one is_two next = (
+  (child, None) ∷ (root, block) ∷ [],
+  is_two ∙ ap (λ (cs : List Change). (child, None) ∷ cs) is_one,
+  record {
+    below = below;
+    only = only;
+    child = child;
+    block = block;
+    level_is = refl;
+    one = refl;
+    address = address;
+    child_block = stands;
+    planned = refl;
+    next = next;
+  },
+)
+root_sinks (suc below) root (only ∷ another ∷ rest) first child block old new before one two above alone address stands is_one is_two next = absurd (omega arith)

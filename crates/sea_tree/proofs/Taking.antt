@@ -1,0 +1,135 @@
+-- What a range has taken, leaf by leaf.
+use Rattle.std.proofs.Common.{◌≡◌, ℕ, ◌<◌, ◌≤◌, Bool, true, cond, List, [], ◌∷◌, ◌++◌, length, take, Option, Some, None, refl, sym, ap, subst, ◌∙◌, arith, length-take, length-append}
+use Rattle.std.specs.Option.{unwrap_or, option_copied, IfSome, IfNone}
+use Rattle.std.specs.Borrow.{Bor}
+use Rattle.std.specs.List.{All}
+use Rattle.std.specs.Ordering.{is_lt}
+use Rattle.std.specs.declared.cmp.Ordering.{Ordering}
+use Rattle.std.specs.declared.cmp.Ordering.TheVariants.{Less, Equal, Greater}
+use Rattle.std.specs.FinMap as map
+use Rattle.sea_base.specs.Space.{Store, Seen, IsKnown, IsSound, Agrees, OnlyRead, laid}
+use Rattle.sea_base.proofs.Spaces.{laid-only_read}
+use Rattle.sea_node.specs.Entries.{Entry, Values, IsNotAbove}
+use Rattle.sea_node.proofs.Keys.{IsNotAbove-trans, IsNotAbove-below, below_then_not_above, not_above_then_below, least_key}
+use Rattle.sea_tree.specs.declared.fault.TreeFault.{TreeFault}
+use Rattle.sea_tree.specs.declared.fault.TreeFault.TheVariants.{Space, Broken}
+use Rattle.sea_tree.specs.declared.way.Way.{Way}
+use Rattle.sea_tree.specs.Tree.{Bounds, root_bounds, IsWithin, LiesWithin}
+use Rattle.sea_tree.specs.Content.{HasContent}
+use Rattle.sea_tree.specs.Breaks.{Breaks}
+use Rattle.sea_tree.specs.Calls.{pairs_above, IsRangeFault}
+use Rattle.sea_tree.specs.Place.{meant}
+use Rattle.sea_tree.specs.Way.{IsKnownWay}
+use Rattle.sea_tree.specs.Range.{is_above, entries_above, pairs_upto, BeginsBelow, IsNextWay}
+use Rattle.sea_tree.proofs.Apart.{IsWithin-below}
+use Rattle.sea_tree.proofs.Ways.{IsKnownWay-later, first_node, leads_name, next_lower}
+use Rattle.sea_tree.proofs.WaySteps.{cause_since}
+use Rattle.sea_tree.proofs.Leaves.{known_find, known_empty}
+use Rattle.sea_tree.proofs.Ranges.{upto_leaf, none_upto, no_pairs, above_is}
+
+-- ---- the next way
+
+pub next_way : (mid new : Seen) (root : ℕ) (key u : List ℕ) (way next : Way) → OnlyRead mid new → IsKnownWay mid root key way → way.bounds.upper ≡ Some u → IsKnownWay new root u next → IsNextWay new root way next
+next_way mid new root key u way next reads known upper further =
+    let still : IsKnownWay new root key way = IsKnownWay-later reads known in record {
+      key = u;
+      upper = upper;
+      lower = next_lower new.view still.down.top further.down.top root way.steps.items next.steps.items key u way.at.0 next.at.0 way.leaf.entries next.leaf.entries (meant way.bounds) (meant next.bounds) (still.down.descent, still.down.node, still.down.leads) (further.down.descent, further.down.node, further.down.leads) upper;
+      known = further;
+    }
+
+pub not_empty : (mid new : Seen) (root : ℕ) (key : List ℕ) (way : Way) → OnlyRead mid new → IsKnownWay mid root key way → new.view root ≡ None → ⊥
+not_empty mid new root key way reads known none =
+    let still : IsKnownWay new root key way = IsKnownWay-later reads known in
+    let top = first_node new.view still.down.top root root_bounds way.steps.items key 0 way.at.0 (meant way.bounds) way.leaf.entries still.down.descent still.down.node in
+    let here = sym none ∙ top.1.0.here in cc
+
+pub next_found : (mid new : Seen) (root : ℕ) (key u : List ℕ) (way : Way) (found : Option Way) → OnlyRead mid new → IsKnownWay mid root key way → way.bounds.upper ≡ Some u → IfSome found (IsKnownWay new root u) → IfSome found (IsNextWay new root way)
+next_found mid new root key u way None reads known upper further = tt
+next_found mid new root key u way (Some next) reads known upper further = next_way mid new root key u way next reads known upper further
+
+pub none_found : (mid new : Seen) (root : ℕ) (key : List ℕ) (way : Way) (found : Option Way) → OnlyRead mid new → IsKnownWay mid root key way → IfNone found (new.view root ≡ None) → IfNone found (way.bounds.upper ≡ None)
+none_found mid new root key way None reads known none = absurd (not_empty mid new root key way reads known none)
+none_found mid new root key way (Some next) reads known none = tt
+
+-- a fault since an earlier moment
+pub range_since : (old mid new : Seen) (root before between now : ℕ) (tells told : Bool) (fault : TreeFault) → OnlyRead old mid → before ≤ between → told ≡ tells → IsRangeFault root mid new between now told fault → IsRangeFault root old new before now tells fault
+range_since old mid new root before between now tells told (Space fault) reads le same cause = cause_since before between now tells told fault le same cause
+range_since old mid new root before between now tells told (Broken at) reads le same breaks = λ store agrees.
+    let one : laid mid store ≡ laid old store = λ i q. laid-only_read reads store q i in
+    subst (λ (s : Store). Breaks s root at.0) one (breaks store agrees)
+
+-- ---- what a leaf adds
+
+lower_within : (b : Bounds) (key : List ℕ) → LiesWithin key b → IsWithin b.lower b.upper
+lower_within b key lies = by b.upper lies.1
+  where
+    by : (u : Option (List ℕ)) → IsWithin key u → IsWithin b.lower u
+    by None h = tt
+    by (Some u) h = not_above_then_below b.lower key u lies.0 h
+
+module _ (old new : Seen) (root : ℕ) (reads : OnlyRead old new) (sound : IsSound new) (store : Store) (content : Values) (agrees : Agrees store new) (holds : HasContent (laid old store) root content) where
+  leaf_upto : (after : Option (List ℕ)) (key : List ℕ) (way : Way) → IsKnownWay new root key way → pairs_upto way.bounds.upper after content ≡ pairs_upto (Some way.bounds.lower) after content ++ entries_above after way.leaf.entries
+  leaf_upto after key way known =
+      upto_leaf after content (meant way.bounds) way.leaf.entries known.down.node.0.spells.node.rising known.down.node.1 (lower_within (meant way.bounds) key known.down.leads) (known_find old new root reads sound store content agrees holds key way known)
+
+  -- a range begins with the pairs of its first leaf
+  pub first_taken : (after : Option (List ℕ)) (way : Way) → IsKnownWay new root (unwrap_or after (0 ∷ [])) way → pairs_upto way.bounds.upper after content ≡ entries_above after way.leaf.entries
+  first_taken after way known =
+      leaf_upto after (unwrap_or after (0 ∷ [])) way known ∙ ap (λ (es : List Entry). es ++ entries_above after way.leaf.entries) (none_upto after content way.bounds.lower (λ q v above has. IsNotAbove-trans way.bounds.lower (unwrap_or after (0 ∷ [])) q known.down.leads.0 (by after q v above has)))
+    where
+      less : (o : Ordering) → is_lt o ≡ true → o ≡ Less
+      less Less e = refl
+      less Equal e = absurd (cc)
+      less Greater e = absurd (cc)
+
+      by : (after : Option (List ℕ)) (q v : List ℕ) → is_above after q ≡ true → map.get content q ≡ Some v → IsNotAbove (unwrap_or after (0 ∷ [])) q
+      by (Some bound) q v above has = IsNotAbove-below bound q (less _ above)
+      by None q v above has =
+          let leads = (holds.pairs q v).1 has in
+          least_key q (leads_name (laid old store) leads.0 root q v leads.1)
+
+  -- and goes on with those of the next
+  pub next_taken : (after : Option (List ℕ)) (way next : Way) → IsNextWay new root way next → pairs_upto next.bounds.upper after content ≡ pairs_upto way.bounds.upper after content ++ entries_above after next.leaf.entries
+  next_taken after way next is =
+      let joint : Some next.bounds.lower ≡ way.bounds.upper = ap Some is.lower ∙ sym is.upper in
+      leaf_upto after is.key next is.known ∙ ap (λ (u : Option (List ℕ)). pairs_upto u after content ++ entries_above after next.leaf.entries) joint
+
+  pub none_taken : (after : Option (List ℕ)) → IsKnown new root → new.view root ≡ None → pairs_above after content ≡ []
+  none_taken after known none = sym (above_is after content) ∙ ap (entries_above after) (no_pairs content (known_empty old new root reads sound store content agrees holds known none))
+
+-- ---- where a range begins
+
+-- its bound, or the least key of all
+pub first_is : (o : Option (Bor (List ℕ))) (d r : Bor (List ℕ)) (low : List ℕ) → r ≡ unwrap_or o d → d.now ≡ low → r.now ≡ unwrap_or (option_copied o) low
+first_is None d r low e least = ap (λ (b : Bor (List ℕ)). b.now) e ∙ least
+first_is (Some x) d r low e least = ap (λ (b : Bor (List ℕ)). b.now) e
+
+-- and that each further leaf adds to it
+
+pub begins_first : (seen : Seen) (root : ℕ) (after : Option (List ℕ)) (way : Way) → IsKnownWay seen root (unwrap_or after (0 ∷ [])) way → BeginsBelow after way.bounds.upper
+begins_first seen root None way known = tt
+begins_first seen root (Some bound) way known = known.down.leads.1
+
+pub begins_next : (seen : Seen) (root : ℕ) (after : Option (List ℕ)) (way next : Way) → IsNextWay seen root way next → BeginsBelow after way.bounds.upper → BeginsBelow after next.bounds.upper
+begins_next seen root None way next is begins = tt
+begins_next seen root (Some bound) way next is begins =
+    IsWithin-below bound is.key next.bounds.upper (subst (IsWithin bound) is.upper begins) is.known.down.leads.1
+
+pub adds_some : (seen : Seen) (root : ℕ) (after : Option (List ℕ)) (way next : Way) → IsNextWay seen root way next → BeginsBelow after way.bounds.upper → 1 ≤ length (entries_above after next.leaf.entries)
+adds_some seen root after way next is begins = by next.leaf.entries is.known.down.node.0.spells.node.some is.known.down.node.1.lower
+  where
+    above : (after : Option (List ℕ)) (k : List ℕ) → BeginsBelow after way.bounds.upper → IsNotAbove next.bounds.lower k → is_above after k ≡ true
+    above None k begins le = refl
+    above (Some bound) k begins le = ap is_lt (below_then_not_above bound is.key k (subst (IsWithin bound) is.upper begins) (subst (λ (l : List ℕ). IsNotAbove l k) is.lower le))
+
+    by : (es : List Entry) → 1 ≤ length es → All (λ (e : Entry). IsNotAbove next.bounds.lower e.0) es → 1 ≤ length (entries_above after es)
+    by [] some all = absurd (omega arith)
+    by (e ∷ es) some all = subst (λ (b : Bool). 1 ≤ length (cond b (e ∷ entries_above after es) (entries_above after es))) (sym (above after e.0 begins (all 0 e (omega arith)))) (omega arith)
+
+pub grows : (limit : ℕ) (found own found' : List Entry) → found' ≡ take limit (found ++ own) → length found < limit → 1 ≤ length own → length found < length found'
+grows limit found own found' is few some = omega (arith, ap length is, length-take limit (found ++ own), length-append found own)
+
+-- what is taken stays taken
+pub taken_on : (limit : ℕ) (found own full : List Entry) (all : List Entry) → found ≡ full → all ≡ full ++ own → take limit (found ++ own) ≡ take limit all
+taken_on limit found own full all is more = ap (λ (es : List Entry). take limit (es ++ own)) is ∙ ap (take limit) (sym more)

@@ -1,0 +1,6 @@
+use Rattle.std.proofs.Common.{length, reverse}
+use Rattle.sea_tree.proofs.RootSettles.{Passes}
+use Rattle.sea_tree.proofs.rooting.planned.Given as goal
+
+abbrev pub invariant-loop-write : goal.invariant-loop-write
+invariant-loop-write g l = Passes l.at.0 (reverse l.plan) (length l.yielded)

@@ -1,0 +1,36 @@
+-- What calls have done to a transaction's view, as the blocks laid over it.
+use Rattle.std.specs.Prelude.{◌≡◌, ◌⊎◌, ℕ, ◌≤◌, List, [], ◌∷◌, Bool, true, false, ◌==◌, ◌||◌, Option, Some, None, length, if◌then◌else◌}
+use Rattle.std.specs.List.{Contains}
+use Rattle.sea_base.specs.Space.{Store, Seen, Found, IsKnown, laid}
+
+-- blocks put under addresses, or nothing left there, the latest first
+abbrev pub Change : Type 0
+Change = ℕ × Option (List ℕ)
+
+-- a store with them laid over it
+abbrev pub overlaid : List Change → Store → Store
+overlaid [] store q = store q
+overlaid (change ∷ changes) store q = if q == change.0 then change.1 else overlaid changes store q
+
+-- an address is among them
+abbrev pub is_among : List Change → ℕ → Bool
+is_among [] q = false
+is_among (change ∷ changes) q = q == change.0 || is_among changes q
+
+-- These changes were made, and addresses were read; what was known stays known.
+pub record Does (changes : List Change) (old new : Seen) : Type 0 where
+  pub reads : (at : ℕ) (found : Found) → old.reads at ≡ Some found → new.reads at ≡ Some found
+  pub changed : (q : ℕ) → new.changed q ≡ (is_among changes q || old.changed q)
+  pub view : (q : ℕ) → (is_among changes q ≡ true) ⊎ IsKnown old q → new.view q ≡ overlaid changes old.view q
+  pub next : old.next ≤ new.next
+
+-- what the transaction had changed at an address is as it was
+pub record IsAsBefore (old new : Seen) (at : ℕ) : Type 0 where
+  pub changed : new.changed at ≡ old.changed at
+  pub view : old.changed at ≡ true → new.view at ≡ old.view at
+
+-- At most so many addresses were changed and are filled still.
+abbrev pub ChangesAtMost : ℕ → Seen → Seen → Type 0
+ChangesAtMost count old new =
+    (places : List ℕ) × (length places ≤ count)
+    × ((at : ℕ) → Contains places at ⊎ (((new.changed at ≡ true) × (new.view at ≡ None)) ⊎ IsAsBefore old new at))

@@ -1,0 +1,15 @@
+pub mod Breaks
+pub mod Calls
+pub mod Changing
+pub mod Content
+pub mod Cut
+pub mod Does
+pub mod Mending
+pub mod Place
+pub mod Plan
+pub mod Range
+pub mod Settled
+pub mod Subtrees
+pub mod Tree
+pub mod Walk
+pub mod Way

@@ -1,0 +1,172 @@
+//! Putting a pair into a tree, and taking one out.
+ghost use Rattle.std.specs.Prelude.{◌≡◌, ◌≤◌, ◌<◌, ◌+◌, ◌^◌, [], ◌∷◌, Some, IfOk, IfErr, OnOk, IsTrue, IfSome, length};
+ghost use Rattle.std.specs.Option.{option_copied};
+ghost use Rattle.std.specs.FinMap as map;
+ghost use Rattle.sea_base.specs.Space.{Store, laid};
+ghost use Rattle.std.specs.FinMap.Entries.{find};
+ghost use Rattle.sea_node.specs.Entries.{Values, key_order};
+ghost use Rattle.sea_node.specs.Node.{node_bytes};
+ghost use Rattle.sea_tree.specs.Breaks.{FillsFewer};
+ghost use Rattle.sea_tree.specs.Does.{Does, ChangesAtMost};
+ghost use Rattle.sea_tree.specs.Plan.{changes_of, count_filled};
+ghost use Rattle.sea_tree.specs.Way.{IsKnownWay};
+ghost use Rattle.sea_tree.specs.Changing.{IsPlanned};
+ghost use Rattle.sea_tree.specs.Calls.{Meets, Becomes, IsChangeFault, IsWholeWay, IsOfSpace};
+
+use crate::TreeFault;
+use crate::edit::Edit;
+use crate::plan::{Plan, perform, plan_node};
+use crate::reading::value_of;
+use crate::rooting::settle_root;
+use crate::settling::settle;
+use crate::way::{Way, way_to};
+use sea_base::{Data, Duplicate, Key, Laddr, NoMemory, Pairs, Space};
+use sea_node::Node;
+use std::alloc::Global;
+
+/// Puts a value under a key, and answers the one that was there.
+pub fn put<S: Space>(
+    alloc: Global,
+    space: &mut S,
+    root: Laddr,
+    key: &Key,
+    value: &Data,
+) -> Result<Option<Data>, TreeFault>
+    requires ready { IsTrue (S.ready space.old) }
+    requires room { (S.seen space.old).next < 2 ^ 62 + 2 ^ 46 }
+    requires value { length value.now ≤ 1024 }
+    ensures changed { IfOk result (λ found. (store : Store) (content : Values)
+        → Meets store root.0 (S.seen space.old) (S.seen space.new) content
+        → (found ≡ map.get content key.now) × Becomes store root.0 (S.seen space.old) (S.seen space.new) (map.insert content key.now value.now)) }
+    ensures whole { OnOk result (IsWholeWay root.0 key.now (S.seen space.old) (S.seen space.new)) }
+    ensures fault { IfErr result (IsChangeFault root.0 (S.seen space.old) (S.seen space.new) (S.faults space.old) (S.faults space.new) (S.tells space.old)) }
+    ensures never_full { IfErr result (λ fault. (store : Store) (content : Values)
+        → Meets store root.0 (S.seen space.old) (S.seen space.new) content → FillsFewer (laid (S.seen space.old) store) (2 ^ 25) → IsOfSpace fault) }
+    ensures few { OnOk result (ChangesAtMost 17 (S.seen space.old) (S.seen space.new)) }
+    ensures next { ((S.seen space.old).next ≤ (S.seen space.new).next) × ((S.seen space.new).next < (S.seen space.old).next + 2 ^ 20) }
+    ensures later { S.faults space.old ≤ S.faults space.new }
+    ensures tells { S.tells space.new ≡ S.tells space.old }
+    ensures ready { IsTrue (S.ready space.new) }
+{
+    // The bytes of a key are a name.
+    prove!(!key.bytes().is_empty());
+    let Some(way) = way_to(alloc, space, root, key)? else {
+        let plan = planted(alloc, root, key, value)?;
+        perform(space, plan)?;
+        return Ok(None);
+    };
+    let old = copy_of(&way.leaf, key)?;
+    let plan = mended(alloc, space, root, way, key, Some(value))?;
+    perform(space, plan)?;
+    Ok(old)
+}
+
+/// Takes a key out, and answers the value that was there.
+pub fn del<S: Space>(
+    alloc: Global,
+    space: &mut S,
+    root: Laddr,
+    key: &Key,
+) -> Result<Option<Data>, TreeFault>
+    requires ready { IsTrue (S.ready space.old) }
+    requires room { (S.seen space.old).next < 2 ^ 62 + 2 ^ 46 }
+    ensures changed { IfOk result (λ found. (store : Store) (content : Values)
+        → Meets store root.0 (S.seen space.old) (S.seen space.new) content
+        → (found ≡ map.get content key.now) × Becomes store root.0 (S.seen space.old) (S.seen space.new) (map.remove content key.now)) }
+    ensures whole { OnOk result (IsWholeWay root.0 key.now (S.seen space.old) (S.seen space.new)) }
+    ensures fault { IfErr result (IsChangeFault root.0 (S.seen space.old) (S.seen space.new) (S.faults space.old) (S.faults space.new) (S.tells space.old)) }
+    ensures never_full { IfErr result (λ fault. (store : Store) (content : Values)
+        → Meets store root.0 (S.seen space.old) (S.seen space.new) content → FillsFewer (laid (S.seen space.old) store) (2 ^ 25) → IsOfSpace fault) }
+    ensures few { OnOk result (ChangesAtMost 17 (S.seen space.old) (S.seen space.new)) }
+    ensures next { ((S.seen space.old).next ≤ (S.seen space.new).next) × ((S.seen space.new).next < (S.seen space.old).next + 2 ^ 20) }
+    ensures later { S.faults space.old ≤ S.faults space.new }
+    ensures tells { S.tells space.new ≡ S.tells space.old }
+    ensures ready { IsTrue (S.ready space.new) }
+{
+    let Some(way) = way_to(alloc, space, root, key)? else {
+        return Ok(None);
+    };
+    let Some(old) = copy_of(&way.leaf, key)? else {
+        return Ok(None);
+    };
+    let plan = mended(alloc, space, root, way, key, None)?;
+    perform(space, plan)?;
+    Ok(Some(old))
+}
+
+// A copy of the value that a node has under a key.
+fn copy_of(node: &Node, key: &Key) -> Result<Option<Data>, NoMemory>
+    ensures { IfOk result (λ found. found ≡ find key_order key.now node.now.entries) }
+{
+    match value_of(node, key) {
+        Some(value) => Ok(Some(value.copy()?)),
+        None => Ok(None),
+    }
+}
+
+// What is to be written for the first pair of a tree.
+fn planted(alloc: Global, root: Laddr, key: &Key, value: &Data) -> Result<Plan, NoMemory>
+    requires { length value.now ≤ 1024 }
+    ensures planned { IfOk result (λ plan. changes_of plan ≡ (root.0, Some (node_bytes 0 ((key.now, value.now) ∷ []))) ∷ []) }
+    ensures few { IfOk result (λ plan. count_filled plan ≡ 1) }
+{
+    let mut entries = Pairs::new(alloc);
+    entries.push((key.copy()?, value.copy()?))?;
+    let leaf = Node { level: 0, entries };
+    let mut plan = Plan::new(alloc);
+    plan_node(alloc, &mut plan, root, &leaf)?;
+    Ok(plan)
+}
+
+// What is to be written where a pair of a leaf comes, goes or has another value: from the leaf up, as far as
+// something is left to do.
+fn mended<S: Space>(
+    alloc: Global,
+    space: &mut S,
+    root: Laddr,
+    way: Way,
+    key: &Key,
+    value: Option<&Data>,
+) -> Result<Plan, TreeFault>
+    requires ready { IsTrue (S.ready space.old) }
+    requires room { (S.seen space.old).next < 2 ^ 62 + 2 ^ 46 }
+    requires value { IfSome (option_copied value) (λ v. length v ≤ 1024) }
+    requires way { IsKnownWay (S.seen space.old) root.0 key.now way }
+    ensures planned { IfOk result (λ plan. IsPlanned root.0 key.now (option_copied value.entry) (S.seen space.old) (S.seen space.new) (changes_of plan)) }
+    ensures few { IfOk result (λ plan. count_filled plan ≤ 17) }
+    ensures fault { IfErr result (IsChangeFault root.0 (S.seen space.old) (S.seen space.new) (S.faults space.old) (S.faults space.new) (S.tells space.old)) }
+    ensures reads { OnOk result (Does [] (S.seen space.old) (S.seen space.new)) }
+    ensures rises { (S.seen space.old).next ≤ (S.seen space.new).next }
+    ensures next { (S.seen space.new).next ≤ (S.seen space.old).next + 9 }
+    ensures later { S.faults space.old ≤ S.faults space.new }
+    ensures tells { S.tells space.new ≡ S.tells space.old }
+    ensures ready { IsTrue (S.ready space.new) }
+{
+    // The bytes of a key are a name.
+    prove!(!key.bytes().is_empty());
+    let value = match value {
+        Some(value) => Some(value.copy()?),
+        None => None,
+    };
+    let mut edit = Edit::Pair {
+        key: key.copy()?,
+        value,
+    };
+    let mut plan = Plan::new(alloc);
+    let Way {
+        mut steps,
+        mut at,
+        leaf: mut node,
+        ..
+    } = way;
+    'up: while let Some(parent) = steps.pop() {
+        let Some(left) = settle(alloc, space, &mut plan, &parent, at, &node, edit)? else {
+            return Ok(plan);
+        };
+        edit = left;
+        at = parent.at;
+        node = parent.node;
+    }
+    settle_root(alloc, space, &mut plan, root, &node, edit)?;
+    Ok(plan)
+}

@@ -1,0 +1,125 @@
+//! Reading a tree: the value under a key, and the pairs above one.
+ghost use Rattle.std.specs.Prelude.{◌≡◌, ◌≤◌, ◌++◌, IfOk, IfErr, OnOk, IsTrue, take, length};
+ghost use Rattle.std.specs.Option.{option_copied};
+ghost use Rattle.std.specs.FinMap as map;
+ghost use Rattle.std.specs.FinMap.Entries.{find};
+ghost use Rattle.sea_base.specs.Space.{Store, OnlyRead};
+ghost use Rattle.sea_node.specs.Entries.{Values, key_order};
+ghost use Rattle.sea_tree.specs.Calls.{Meets, pairs_above, IsWayFault, IsRangeFault, IsWholeWay};
+ghost use Rattle.sea_tree.specs.Range.{is_above, entries_above};
+
+use crate::TreeFault;
+use crate::place::Bounds;
+use crate::way::{way_after, way_to};
+use sea_base::{Data, Duplicate, Key, Laddr, NoMemory, Pairs, Space};
+use sea_node::Node;
+use std::alloc::Global;
+
+#[cfg(test)]
+pub(crate) mod tests;
+
+/// The value under a key.
+pub fn get<S: Space>(
+    alloc: Global,
+    space: &mut S,
+    root: Laddr,
+    key: &Key,
+) -> Result<Option<Data>, TreeFault>
+    requires { IsTrue (S.ready space.old) }
+    ensures value { IfOk result (λ found. (store : Store) (content : Values)
+        → Meets store root.0 (S.seen space.old) (S.seen space.new) content → found ≡ map.get content key.now) }
+    ensures whole { OnOk result (IsWholeWay root.0 key.now (S.seen space.old) (S.seen space.new)) }
+    ensures fault { IfErr result (IsWayFault root.0 key.now (S.seen space.old) (S.seen space.new) (S.faults space.old) (S.faults space.new) (S.tells space.old)) }
+    ensures reads { OnlyRead (S.seen space.old) (S.seen space.new) }
+    ensures later { S.faults space.old ≤ S.faults space.new }
+    ensures tells { S.tells space.new ≡ S.tells space.old }
+    ensures ready { IsTrue (S.ready space.new) }
+{
+    let Some(way) = way_to(alloc, space, root, key)? else {
+        return Ok(None);
+    };
+    let found = match value_of(&way.leaf, key) {
+        Some(value) => Some(value.copy()?),
+        None => None,
+    };
+    Ok(found)
+}
+
+/// The value that a node has under a key.
+pub(crate) fn value_of<'a>(node: &'a Node, key: &Key) -> Option<&'a Data>
+    ensures { option_copied result ≡ find key_order key.now node.now.entries }
+{
+    let entries = node.entries.items();
+    for (at, value) in entries {
+        if at == key {
+            return Some(value);
+        }
+    }
+    None
+}
+
+/// The first `limit` pairs with keys above a bound, or with none all keys.
+pub fn range<S: Space>(
+    alloc: Global,
+    space: &mut S,
+    root: Laddr,
+    after: Option<&Key>,
+    limit: u32,
+) -> Result<Pairs, TreeFault>
+    requires { IsTrue (S.ready space.old) }
+    ensures pairs { IfOk result (λ found. (store : Store) (content : Values)
+        → Meets store root.0 (S.seen space.old) (S.seen space.new) content → found ≡ take limit (pairs_above (option_copied after.entry) content)) }
+    ensures fault { IfErr result (IsRangeFault root.0 (S.seen space.old) (S.seen space.new) (S.faults space.old) (S.faults space.new) (S.tells space.old)) }
+    ensures reads { OnlyRead (S.seen space.old) (S.seen space.new) }
+    ensures later { S.faults space.old ≤ S.faults space.new }
+    ensures tells { S.tells space.new ≡ S.tells space.old }
+    ensures ready { IsTrue (S.ready space.new) }
+{
+    let mut found = Pairs::new(alloc);
+    let least = Bounds::root(alloc)?;
+    let first = after.unwrap_or(&least.lower);
+    let Some(mut way) = way_to(alloc, space, root, first)? else {
+        return Ok(found);
+    };
+    take_above(&mut found, &way.leaf, after, limit)?;
+    'leaves: while found.items().len() < limit as usize {
+        let Some(next) = way_after(alloc, space, root, &way)? else {
+            return Ok(found);
+        };
+        take_above(&mut found, &next.leaf, after, limit)?;
+        way = next;
+    }
+    Ok(found)
+}
+
+// Appends the pairs of a leaf with keys above a bound, up to `limit` in all.
+fn take_above(
+    found: &mut Pairs,
+    leaf: &Node,
+    after: Option<&Key>,
+    limit: u32,
+) -> Result<(), NoMemory>
+    requires { length found.old ≤ limit }
+    ensures { OnOk result (found.new ≡ take limit (found.old ++ entries_above (option_copied after.entry) leaf.now.entries)) }
+{
+    let entries = leaf.entries.items();
+    for (key, value) in entries {
+        if found.items().len() >= limit as usize {
+            return Ok(());
+        }
+        if comes_after(key, after) {
+            found.push((key.copy()?, value.copy()?))?;
+        }
+    }
+    Ok(())
+}
+
+// Whether a key is above a bound, if there is one.
+fn comes_after(key: &Key, bound: Option<&Key>) -> bool
+    ensures { result ≡ is_above (option_copied bound.entry) key.now }
+{
+    match bound {
+        Some(bound) => bound < key,
+        None => true,
+    }
+}

@@ -1,0 +1,196 @@
+//! Settling the root of a tree whose entries changed: what is to be written of it.
+ghost use Rattle.std.specs.Prelude.{◌≡◌, ◌+◌, ◌<◌, ◌≤◌, ◌++◌, ◌⊎◌, ◌^◌, [], List, IfOk, IfErr, OnOk, IsTrue, length};
+ghost use Rattle.std.specs.Option.{option_copied};
+ghost use Rattle.sea_base.specs.Faults.{IsCause};
+ghost use Rattle.sea_base.specs.Space.{Store, Agrees, laid, IsKnown, OnlyRead};
+ghost use Rattle.sea_node.specs.Entries.{size};
+ghost use Rattle.sea_tree.specs.Tree.{root_bounds, IsAddress};
+ghost use Rattle.sea_tree.specs.Breaks.{HasNode};
+ghost use Rattle.sea_tree.specs.Does.{Change, Does, overlaid};
+ghost use Rattle.sea_tree.specs.Plan.{change_of, changes_of, count_filled};
+ghost use Rattle.sea_tree.specs.Mending.{after_edit, IsNearPlace};
+ghost use Rattle.sea_tree.specs.Calls.{IsRootSettleFault, IsOfSpace};
+ghost use Rattle.sea_tree.specs.Changing.{root_entries, RootSplits, RootSinks, RootSettled};
+
+use crate::TreeFault;
+use crate::cut::{halves, size_of};
+use crate::edit::Edit;
+use crate::place::{Bounds, value_of};
+use crate::plan::{Plan, Write, plan_edit, plan_gone, plan_node};
+use sea_base::{Block, Data, Duplicate, Laddr, NoMemory, Pairs, Space, SpaceFault, u64_at};
+use sea_node::Node;
+use std::alloc::Global;
+
+// A node has these bytes of entries at most.
+const MOST_BYTES: usize = 4064;
+
+// The highest level that a node has.
+const TOP_LEVEL: u32 = 7;
+
+/// Plans to write the root with its edit, or to raise the tree over two fresh nodes, or to lower it to its
+/// one child, or to leave nothing of it.
+pub(crate) fn settle_root<S: Space>(
+    alloc: Global,
+    space: &mut S,
+    plan: &mut Plan,
+    root: Laddr,
+    node: &Node,
+    edit: Edit,
+) -> Result<(), TreeFault>
+    requires ready { IsTrue (S.ready space.old) }
+    requires room { (S.seen space.old).next < 2 ^ 62 + 2 ^ 47 }
+    requires known { IsKnown (S.seen space.old) root.0 }
+    requires node { HasNode (S.seen space.old).view node.now.level root.0 root_bounds node.now.entries }
+    requires near { IsNearPlace node.now.level root_bounds (after_edit edit node.now.entries) }
+    requires grown { 1 ≤ node.now.level → size (after_edit edit node.now.entries) ≤ size node.now.entries + 75 }
+    ensures settled { OnOk result ((changes : List Change) × (changes_of plan.new ≡ changes ++ changes_of plan.old)
+        × RootSettled node.now.level root.0 (after_edit edit node.now.entries) (S.seen space.old) (S.seen space.new) (changes_of plan.old) changes) }
+    ensures few { OnOk result (count_filled plan.new ≤ count_filled plan.old + 3) }
+    ensures fault { IfErr result (IsRootSettleFault root.0 (S.seen space.old) (S.seen space.new) (S.faults space.old) (S.faults space.new) (S.tells space.old)) }
+    ensures reads { OnOk result (Does [] (S.seen space.old) (S.seen space.new)) }
+    ensures broken { IfErr result (λ fault. IsOfSpace fault ⊎ Does [] (S.seen space.old) (S.seen space.new)) }
+    ensures rises { (S.seen space.old).next ≤ (S.seen space.new).next }
+    ensures next { (S.seen space.new).next ≤ (S.seen space.old).next + 2 }
+    ensures later { S.faults space.old ≤ S.faults space.new }
+    ensures tells { S.tells space.new ≡ S.tells space.old }
+    ensures ready { IsTrue (S.ready space.new) }
+{
+    let edited = Node {
+        level: node.level,
+        entries: edit.applied(alloc, node.entries.items())?,
+    };
+    let entries = edited.entries.items();
+    if size_of(entries) > MOST_BYTES {
+        if edited.level == TOP_LEVEL {
+            return Err(TreeFault::Broken { at: root });
+        }
+        return Ok(split_root(alloc, space, plan, root, &edited)?);
+    }
+    if entries.is_empty() {
+        return Ok(plan_gone(plan, root)?);
+    }
+    if edited.level > 0 && entries.len() == 1 {
+        return Ok(sink_root(space, plan, root, &edited)?);
+    }
+    Ok(plan_edit(alloc, plan, root, node, edit, &edited)?)
+}
+
+// Plans to raise the tree: the two halves of the root go to fresh addresses, and the root leads to them.
+fn split_root<S: Space>(
+    alloc: Global,
+    space: &mut S,
+    plan: &mut Plan,
+    root: Laddr,
+    node: &Node,
+) -> Result<(), SpaceFault>
+    requires ready { IsTrue (S.ready space.old) }
+    requires room { (S.seen space.old).next < 2 ^ 62 + 2 ^ 47 }
+    requires near { IsNearPlace node.now.level root_bounds node.now.entries }
+    requires large { 4064 < size node.now.entries }
+    requires low { node.now.level < 7 }
+    ensures split { OnOk result ((changes : List Change) × (changes_of plan.new ≡ changes ++ changes_of plan.old)
+        × RootSplits node.now.level root.0 node.now.entries (S.seen space.old) (S.seen space.new) changes) }
+    ensures few { OnOk result (count_filled plan.new ≡ count_filled plan.old + 3) }
+    ensures fault { IfErr result (IsCause (S.faults space.old) (S.faults space.new) (S.tells space.old)) }
+    ensures reads { OnOk result (Does [] (S.seen space.old) (S.seen space.new)) }
+    ensures rises { (S.seen space.old).next ≤ (S.seen space.new).next }
+    ensures next { (S.seen space.new).next ≤ (S.seen space.old).next + 2 }
+    ensures later { S.faults space.old ≤ S.faults space.new }
+    ensures tells { S.tells space.new ≡ S.tells space.old }
+    ensures ready { IsTrue (S.ready space.new) }
+{
+    let (front, back) = halves(alloc, node)?;
+    let left = space.alloc(2)?;
+    let right = Laddr(left.0 + 1);
+    plan_node(alloc, plan, left, &front)?;
+    plan_node(alloc, plan, right, &back)?;
+    let over = Node {
+        level: node.level + 1,
+        entries: entries_over(alloc, left, right, &back)?,
+    };
+    Ok(plan_node(alloc, plan, root, &over)?)
+}
+
+// The entries of a root over two nodes.
+fn entries_over(alloc: Global, left: Laddr, right: Laddr, back: &Node) -> Result<Pairs, NoMemory>
+    requires some { 1 ≤ length back.now.entries }
+    requires next { right.0 ≡ left.0 + 1 }
+    ensures { IfOk result (λ entries. entries ≡ root_entries left.0 back.now.entries) }
+{
+    let Bounds { lower, .. } = Bounds::root(alloc)?;
+    let separator = back.entries.items()[0].0.copy()?;
+    let mut entries = Pairs::new(alloc);
+    entries.push((lower, value_of(alloc, left)?))?;
+    entries.push((separator, value_of(alloc, right)?))?;
+    Ok(entries)
+}
+
+// Plans to lower the tree: the root takes what is to stand at its one child.
+fn sink_root<S: Space>(
+    space: &mut S,
+    plan: &mut Plan,
+    root: Laddr,
+    node: &Node,
+) -> Result<(), SpaceFault>
+    requires ready { IsTrue (S.ready space.old) }
+    requires near { IsNearPlace node.now.level root_bounds node.now.entries }
+    requires above { 1 ≤ node.now.level }
+    requires one { length node.now.entries ≡ 1 }
+    ensures sunk { OnOk result ((changes : List Change) × (changes_of plan.new ≡ changes ++ changes_of plan.old)
+        × RootSinks node.now.level root.0 node.now.entries (S.seen space.old) (S.seen space.new) (changes_of plan.old) changes) }
+    ensures few { OnOk result (count_filled plan.new ≤ count_filled plan.old + 1) }
+    ensures fault { IfErr result (IsCause (S.faults space.old) (S.faults space.new) (S.tells space.old)) }
+    ensures reads { OnlyRead (S.seen space.old) (S.seen space.new) }
+    ensures later { S.faults space.old ≤ S.faults space.new }
+    ensures tells { S.tells space.new ≡ S.tells space.old }
+    ensures ready { IsTrue (S.ready space.new) }
+{
+    let child = address_of(&node.entries.items()[0].1);
+    match planned(space, plan, child)? {
+        Some(block) => plan.push(Write::Whole { at: root, block })?,
+        None => plan_gone(plan, root)?,
+    }
+    Ok(plan_gone(plan, child)?)
+}
+
+// The address that a value leads to.
+fn address_of(value: &Data) -> Laddr
+    requires { length value.now ≡ 8 }
+    ensures { IsAddress value.now result.0 }
+{
+    Laddr(u64_at(value.bytes(), 0))
+}
+
+// What stands at an address once the plan is carried out.
+fn planned<S: Space>(space: &mut S, plan: &Plan, at: Laddr) -> Result<Option<Block>, SpaceFault>
+    requires { IsTrue (S.ready space.old) }
+    ensures block { IfOk result (λ block. (store : Store) → Agrees store (S.seen space.new)
+        → block ≡ overlaid (changes_of plan.now) (laid (S.seen space.old) store) at.0) }
+    ensures fault { IfErr result (IsCause (S.faults space.old) (S.faults space.new) (S.tells space.old)) }
+    ensures reads { OnlyRead (S.seen space.old) (S.seen space.new) }
+    ensures later { S.faults space.old ≤ S.faults space.new }
+    ensures tells { S.tells space.new ≡ S.tells space.old }
+    ensures ready { IsTrue (S.ready space.new) }
+{
+    for write in plan.items().iter().rev() {
+        let (written, block) = left_by(write);
+        if written == at {
+            return Ok(match block {
+                Some(block) => Some(block.share()?),
+                None => None,
+            });
+        }
+    }
+    space.get(at)
+}
+
+// The address of a write, and the block that it leaves there.
+fn left_by(write: &Write) -> (Laddr, Option<&Block>)
+    ensures { (result.0.0, option_copied result.1) ≡ change_of write.now }
+{
+    match write {
+        Write::Whole { at, block } => (*at, Some(block)),
+        Write::Spliced { at, splice } => (*at, Some(&splice.block)),
+        Write::Gone { at } => (*at, None),
+    }
+}

@@ -1,0 +1,142 @@
+//! Settling one node below the root whose entries changed: what is to be written of it, and what is left to
+//! do in its parent.
+ghost use Rattle.std.specs.Prelude.{◌≡◌, ◌+◌, ◌<◌, ◌≤◌, ◌++◌, ◌⊎◌, ◌^◌, [], Some, List, IfOk, IfErr, OnOk, IsTrue, length};
+ghost use Rattle.sea_base.specs.Faults.{IsCause};
+ghost use Rattle.sea_node.specs.Entries.{size};
+ghost use Rattle.sea_node.specs.Node.{IsNode};
+ghost use Rattle.sea_tree.specs.Tree.{Bounds as Asked};
+ghost use Rattle.sea_tree.specs.Does.{Change, Does};
+ghost use Rattle.sea_tree.specs.Plan.{changes_of, count_filled};
+ghost use Rattle.sea_tree.specs.Mending.{after_edit, IsNearPlace};
+ghost use Rattle.sea_tree.specs.Settled.{IsNearChild, SplitsInTwo, Joined, CutAnew, Settled, IsSettleFault};
+
+use crate::TreeFault;
+use crate::cut::{halves, size_of};
+use crate::edit::Edit;
+use crate::neighbours::Neighbours;
+use crate::place::{LEAST_BYTES, value_of};
+use crate::plan::{Plan, plan_edit, plan_gone, plan_node};
+use crate::way::Step;
+use sea_base::{Duplicate, Laddr, NoMemory, Space, SpaceFault};
+use sea_node::Node;
+use std::alloc::Global;
+
+// A node has these bytes of entries at most.
+const MOST_BYTES: usize = 4064;
+
+/// Plans to write a node below the root with its edit, or to split it, or to even it out with a neighbour.
+/// Answers what is left to do in its parent.
+pub(crate) fn settle<S: Space>(
+    alloc: Global,
+    space: &mut S,
+    plan: &mut Plan,
+    parent: &Step,
+    at: Laddr,
+    node: &Node,
+    edit: Edit,
+) -> Result<Option<Edit>, TreeFault>
+    requires ready { IsTrue (S.ready space.old) }
+    requires room { (S.seen space.old).next < 2 ^ 62 + 2 ^ 47 }
+    requires parent { IsNode parent.now.node.level parent.now.node.entries }
+    requires level { parent.now.node.level ≡ node.now.level + 1 }
+    requires index { parent.now.index < length parent.now.node.entries }
+    requires node { IsNode node.now.level node.now.entries }
+    requires child { IsNearChild parent.now node.now.level at.0 (after_edit edit node.now.entries) }
+    ensures settled { IfOk result (λ left. (changes : List Change) × (changes_of plan.new ≡ changes ++ changes_of plan.old)
+        × Settled node.now.level at.0 (after_edit edit node.now.entries) parent.now (S.seen space.old) (S.seen space.new) changes left) }
+    ensures few { OnOk result (count_filled plan.new ≤ count_filled plan.old + 2) }
+    ensures fault { IfErr result (IsSettleFault node.now.level parent.now (S.seen space.old) (S.seen space.new) (S.faults space.old) (S.faults space.new) (S.tells space.old)) }
+    ensures reads { OnOk result (Does [] (S.seen space.old) (S.seen space.new)) }
+    ensures rises { (S.seen space.old).next ≤ (S.seen space.new).next }
+    ensures next { (S.seen space.new).next ≤ (S.seen space.old).next + 1 }
+    ensures later { S.faults space.old ≤ S.faults space.new }
+    ensures tells { S.tells space.new ≡ S.tells space.old }
+    ensures ready { IsTrue (S.ready space.new) }
+{
+    let edited = Node {
+        level: node.level,
+        entries: edit.applied(alloc, node.entries.items())?,
+    };
+    let bytes = size_of(edited.entries.items());
+    if bytes > MOST_BYTES {
+        return Ok(Some(split(alloc, space, plan, at, &edited)?));
+    }
+    if bytes < LEAST_BYTES as usize {
+        let pair = Neighbours::of(alloc, space, parent, at, &edited)?;
+        return Ok(even_out(alloc, plan, pair)?);
+    }
+    plan_edit(alloc, plan, at, node, edit, &edited)?;
+    Ok(None)
+}
+
+// Plans to write the two halves of a node, the second at a fresh address, of which the parent is to hear.
+fn split<S: Space>(
+    alloc: Global,
+    space: &mut S,
+    plan: &mut Plan,
+    at: Laddr,
+    node: &Node,
+) -> Result<Edit, SpaceFault>
+    requires ready { IsTrue (S.ready space.old) }
+    requires room { (S.seen space.old).next < 2 ^ 62 + 2 ^ 47 }
+    requires near { (bounds : Asked) × IsNearPlace node.now.level bounds node.now.entries }
+    requires large { 4064 < size node.now.entries }
+    ensures split { IfOk result (λ left. (changes : List Change) × (changes_of plan.new ≡ changes ++ changes_of plan.old)
+        × SplitsInTwo node.now.level at.0 node.now.entries (S.seen space.old) (S.seen space.new) changes (Some left)) }
+    ensures few { OnOk result (count_filled plan.new ≡ count_filled plan.old + 2) }
+    ensures fault { IfErr result (IsCause (S.faults space.old) (S.faults space.new) (S.tells space.old)) }
+    ensures reads { OnOk result (Does [] (S.seen space.old) (S.seen space.new)) }
+    ensures rises { (S.seen space.old).next ≤ (S.seen space.new).next }
+    ensures next { (S.seen space.new).next ≤ (S.seen space.old).next + 1 }
+    ensures later { S.faults space.old ≤ S.faults space.new }
+    ensures tells { S.tells space.new ≡ S.tells space.old }
+    ensures ready { IsTrue (S.ready space.new) }
+{
+    let (front, back) = halves(alloc, node)?;
+    let fresh = space.alloc(1)?;
+    plan_node(alloc, plan, at, &front)?;
+    plan_node(alloc, plan, fresh, &back)?;
+    Ok(Edit::Pair {
+        key: back.entries.items()[0].0.copy()?,
+        value: Some(value_of(alloc, fresh)?),
+    })
+}
+
+// Plans to write two neighbours as one node, or to cut their entries anew.
+fn even_out(alloc: Global, plan: &mut Plan, pair: Neighbours) -> Result<Option<Edit>, NoMemory>
+    requires near { (bounds : Asked) × IsNearPlace pair.both.level bounds pair.both.entries }
+    requires filled { 1016 ≤ size pair.both.entries }
+    ensures evened { IfOk result (λ left. Joined pair (changes_of plan.old) (changes_of plan.new) left ⊎ CutAnew pair (changes_of plan.old) (changes_of plan.new) left) }
+    ensures few { OnOk result (count_filled plan.new ≤ count_filled plan.old + 2) }
+{
+    if size_of(pair.both.entries.items()) > MOST_BYTES {
+        return cut_anew(alloc, plan, pair);
+    }
+    plan_node(alloc, plan, pair.left, &pair.both)?;
+    plan_gone(plan, pair.right)?;
+    Ok(Some(Edit::Pair {
+        key: pair.separator,
+        value: None,
+    }))
+}
+
+// Plans to write two neighbours with their entries cut anew. The parent is to hear of the second one's key,
+// where it is another.
+fn cut_anew(alloc: Global, plan: &mut Plan, pair: Neighbours) -> Result<Option<Edit>, NoMemory>
+    requires near { (bounds : Asked) × IsNearPlace pair.both.level bounds pair.both.entries }
+    requires large { 4064 < size pair.both.entries }
+    ensures cut { IfOk result (CutAnew pair (changes_of plan.old) (changes_of plan.new)) }
+    ensures few { OnOk result (count_filled plan.new ≡ count_filled plan.old + 2) }
+{
+    let (front, back) = halves(alloc, &pair.both)?;
+    plan_node(alloc, plan, pair.left, &front)?;
+    plan_node(alloc, plan, pair.right, &back)?;
+    let first = &back.entries.items()[0].0;
+    if *first == pair.separator {
+        return Ok(None);
+    }
+    Ok(Some(Edit::Moved {
+        from: pair.separator,
+        to: first.copy()?,
+    }))
+}
