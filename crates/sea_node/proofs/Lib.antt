@@ -1,7 +1,9 @@
 pub mod Edits
 pub mod EntryBytes
 pub mod Keys
+pub mod Lookups
 pub mod Nodes
 pub mod Places
+pub mod ReadLookups
 pub mod ReadNodes
 pub mod Splits

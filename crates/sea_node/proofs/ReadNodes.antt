@@ -2,7 +2,7 @@
 use Rattle.std.proofs.Common.{◌≡◌, ◌≢◌, ℕ, zero, suc, ◌+◌, ◌-◌, ◌<◌, ◌≤◌, List, [], ◌∷◌, ◌++◌, length, get_or, take, drop, replicate, codes, refl, sym, ap, subst, ◌∙◌, arith, append_assoc, length-append, length-drop, take-append-drop}
 use Rattle.std.specs.Prelude.{slice_range}
 use Rattle.std.specs.List.{AllByRecursion}
-use Rattle.std.proofs.lemmas.List.{append-nil, drop_more, drop-drop, length-take-le, get_or_at, drop_at}
+use Rattle.std.proofs.lemmas.List.{take_rest, get_or-drop, append-nil, drop_more, drop-drop, length-take-le, get_or_at, drop_at}
 use Rattle.sea_base.specs.Field.{big_endian}
 use Rattle.sea_base.proofs.Fields.{length-big_endian, one_byte}
 use Rattle.sea_base.proofs.Slices.{zeros_long, slice_at, slice_then}
@@ -122,19 +122,28 @@ more_read bytes rest behind es later e same all read found =
     all_more [] all = (found.0, tt)
     all_more (x ∷ xs) all = (all.0, all_more xs all.1)
 
+-- the first of the bytes from a place on
+pub first_from : (bytes : List ℕ) (at : ℕ) → get_or (drop at bytes) 0 0 ≡ get_or bytes at 0
+first_from bytes at = get_or-drop at bytes 0 0 ∙ ap (λ (k : ℕ). get_or bytes k 0) (omega arith)
+
+-- what a test of the bytes from a place on says of the block's
+pub whole_from : (bytes block : List ℕ) (at : ℕ) → bytes ≡ block → take (length bytes - at) (drop at bytes) ≡ drop at block
+whole_from bytes block at same = take_rest bytes at ∙ ap (drop at) same
+
 pub further : (bytes : List ℕ) (at end : ℕ) (e : Entry) → length bytes ≡ 4096 → at < 4096 → StandsAt bytes at e end → at < end
 further bytes at end e len within found =
     omega (arith, ap length found.1.1, length-append (entry_bytes e) (drop end bytes), length-entry_bytes e, length-drop at bytes, length-drop end bytes)
 
 -- entries and a rest that are entries and zeros: these begin with those, and the rest is the others and the zeros
-same_front : (es fs : List Entry) (rest : List ℕ) (n : ℕ) → AllByRecursion IsEntry es → AllByRecursion IsEntry fs → entries_bytes es ++ rest ≡ entries_bytes fs ++ replicate n 0
-    → (more : List Entry) × AllByRecursion IsEntry more × (rest ≡ entries_bytes more ++ replicate n 0)
-same_front [] fs rest n all_e all_f same = (fs, all_f, same)
+pub same_front : (es fs : List Entry) (rest : List ℕ) (n : ℕ) → AllByRecursion IsEntry es → AllByRecursion IsEntry fs → entries_bytes es ++ rest ≡ entries_bytes fs ++ replicate n 0
+    → (more : List Entry) × AllByRecursion IsEntry more × (rest ≡ entries_bytes more ++ replicate n 0) × (fs ≡ es ++ more)
+same_front [] fs rest n all_e all_f same = (fs, all_f, same, refl)
 same_front (e ∷ es) [] rest n all_e all_f same =
     absurd (ends e (entries_bytes es ++ rest) n all_e.0.0 (sym (append_assoc (entry_bytes e) (entries_bytes es) rest) ∙ same))
 same_front (e ∷ es) (f ∷ fs) rest n all_e all_f same =
     let first = same_entry e f _ _ all_e.0 all_f.0 (sym (append_assoc (entry_bytes e) (entries_bytes es) rest) ∙ same ∙ append_assoc (entry_bytes f) (entries_bytes fs) (replicate n 0)) in
-    same_front es fs rest n all_e.1 all_f.1 first.1
+    let behind = same_front es fs rest n all_e.1 all_f.1 first.1 in
+    (behind.0, behind.1, behind.2, λ i. sym first.0 i ∷ behind.3 i)
 
 -- a byte other than 0 stands there, and no entry: then the whole is no entries
 pub stops : (bytes rest : List ℕ) (read : List Entry) → AllByRecursion IsEntry read → bytes ≡ entries_bytes read ++ rest → get_or rest 0 0 ≢ 0 → BeginsWithNoEntry rest → (es : List Entry) → AreEntries bytes es → ⊥
@@ -192,10 +201,14 @@ node_read bytes level es len begins entries node =
       spelled = begins.1 ∙ ap (λ (r : List ℕ). front_bytes level ++ r) (entries.1 ∙ ap (λ (n : ℕ). entries_bytes es ++ replicate (n - size es) 0) rest) ∙ sym (node_front level es);
     }
 
+pub same_level : (bytes : List ℕ) (level level' : ℕ) (es : List Entry) → BeginsAtLevel bytes level → Spells bytes level' es → level' ≡ level
+same_level bytes level level' es begins spells =
+    sym (front_fields bytes level' _ (spelled_front bytes level' es spells)).numbered ∙ (front_fields bytes level _ begins.1).numbered
+
 -- what was read is all that the block may spell
 pub only_read : (bytes : List ℕ) (level level' : ℕ) (es fs : List Entry) → BeginsAtLevel bytes level → AreEntries (drop 32 bytes) es → Spells bytes level' fs → IsNode level es
 only_read bytes level level' es fs begins entries spells =
-    let number : level' ≡ level = sym (front_fields bytes level' _ (spelled_front bytes level' fs spells)).numbered ∙ (front_fields bytes level _ begins.1).numbered in
+    let number : level' ≡ level = same_level bytes level level' fs begins spells in
     let others = spelled_entries bytes level' fs spells in
     let same : fs ≡ es = same_entries fs es _ _ others.0 entries.0 (sym others.1 ∙ entries.1) in
     subst (λ (l : ℕ). IsNode l es) number (subst (IsNode level') same spells.node)

@@ -3,9 +3,11 @@
 
 mod edit;
 mod entry;
+mod lookup;
 mod node;
 mod reading;
 
+pub use lookup::Lookup;
 pub use node::Node;
 
 #[cfg(test)]

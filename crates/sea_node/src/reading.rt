@@ -15,7 +15,8 @@ const LEVELS: u8 = 8;
 
 const VALUE_BYTES: usize = 1024;
 
-const ADDRESS_BYTES: usize = 8;
+/// How many bytes the address of a child has.
+pub const ADDRESS_BYTES: usize = 8;
 
 /// The level of the node that the block begins as.
 pub fn read_level(block: &Block) -> Option<u32>
@@ -53,8 +54,8 @@ pub fn read_entries(alloc: Global, block: &Block) -> Result<Option<Pairs>, NoMem
     Ok(Some(entries))
 }
 
-// The entry that stands at a place, and where it ends.
-fn read_entry(block: &Block, at: usize) -> Result<Option<((Key, Data), usize)>, NoMemory>
+/// The entry that stands at a place, and where it ends.
+pub fn read_entry(block: &Block, at: usize) -> Result<Option<((Key, Data), usize)>, NoMemory>
     requires { at < 4096 }
     ensures { IfOk result (λ found. MatchOption found (BeginsWithNoEntry (drop at block.now)) (λ x. StandsAt block.now at x.0 x.1)) }
 {

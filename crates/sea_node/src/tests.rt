@@ -1,5 +1,5 @@
 use super::*;
-use sea_base::{BLOCK_BYTES, Block, NoMemory};
+use sea_base::{BLOCK_BYTES, Block, Key, NoMemory};
 use std::alloc::Global;
 use std::test::Fail;
 
@@ -14,9 +14,15 @@ fn block_of(alloc: Global, level: u8, bytes: &[u8]) -> Result<Block, NoMemory> {
     Block::from_vec(whole)
 }
 
-fn spells_none(alloc: Global, level: u8, bytes: &[u8]) -> Result<bool, NoMemory> {
+// Whether the block spells no node: parsing and a look-up agree.
+fn spells_none(alloc: Global, level: u8, bytes: &[u8]) -> Result<bool, Fail> {
     let block = block_of(alloc, level, bytes)?;
-    Ok(Node::parse(alloc, &block)?.is_none())
+    let parsed = Node::parse(alloc, &block)?;
+    let told = Node::look_up(&block, &Key::new(alloc, b"a")?)?;
+    if parsed.is_none() != told.is_none() {
+        return Err(Fail::from("one finds a node"));
+    }
+    Ok(parsed.is_none())
 }
 
 // An entry with a value of 300 bytes, and one with none.
@@ -69,5 +75,37 @@ fn an_inner_node_has_two_children_at_addresses(rt: HostRuntime) -> Result<(), Fa
     assert!(rt; !spells_none(alloc, 1, &two)?);
     assert!(rt; spells_none(alloc, 1, &short)?);
     assert!(rt; !spells_none(alloc, 0, &short)?);
+    Ok(())
+}
+
+// A leaf of two pairs, at a key: the found value's bytes and the next key's, or an x for none.
+#[test]
+fn a_key_is_looked_up_in_a_leaf(rt: HostRuntime) -> Result<(), Fail> {
+    let alloc = rt.alloc();
+    let block = block_of(alloc, 0, &[1, 0, 1, b'b', 7, 1, 0, 1, b'd', 8])?;
+    for (at, value, next) in [
+        (b'a', None, Some(b'b')),
+        (b'b', Some(7), Some(b'd')),
+        (b'c', Some(7), Some(b'd')),
+        (b'd', Some(8), None),
+        (b'e', Some(8), None),
+    ] {
+        let key = Key::new(alloc, &[at])?;
+        let Some(told) = Node::look_up(&block, &key)? else {
+            return Err(Fail::from("no node"));
+        };
+        assert_eq!(rt; told.level, 0);
+        assert_eq!(rt; told.size, 10);
+        assert_eq!(rt; told.first.bytes(), b"b".as_slice());
+        assert_eq!(rt; told.last.bytes(), b"d".as_slice());
+        assert_eq!(rt;
+            told.found.map(|found| found.1.bytes().first().copied()),
+            value.map(Some)
+        );
+        assert_eq!(rt;
+            told.next.map(|next| next.bytes().first().copied()),
+            next.map(Some)
+        );
+    }
     Ok(())
 }

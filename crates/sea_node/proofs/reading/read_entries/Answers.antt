@@ -1,18 +1,10 @@
 use Rattle.std.proofs.Common.{◌≡◌, ◌-◌, ℕ, List, length, get_or, take, drop, replicate, arith, ap, sym, subst, refl, ◌∙◌}
 use Rattle.std.proofs.lemmas.Bool.{false≢true}
-use Rattle.std.proofs.lemmas.List.{take_rest, get_or-drop, get_or_past, length-drop}
+use Rattle.std.proofs.lemmas.List.{get_or_past, length-drop}
 use Rattle.sea_node.specs.Reading.{StandsAt}
-use Rattle.sea_node.proofs.ReadNodes.{none_read, more_read, further, stops, ends_dirty, ends_clean}
+use Rattle.sea_node.proofs.ReadNodes.{first_from, whole_from, none_read, more_read, further, stops, ends_dirty, ends_clean}
 use Rattle.sea_node.proofs.reading.read_entries.Goals as goal
 use Rattle.sea_node.proofs.reading.read_entries.Goals.{then-loop-at-test+else-bytes-at-ne0, else-loop-at-test}
-
--- the first of the bytes from a place on
-first_from : (bytes : List ℕ) (at : ℕ) → get_or (drop at bytes) 0 0 ≡ get_or bytes at 0
-first_from bytes at = get_or-drop at bytes 0 0 ∙ ap (λ (k : ℕ). get_or bytes k 0) (omega arith)
-
--- what a test of the bytes from a place on says of the block's
-from : (bytes block : List ℕ) (at : ℕ) → bytes ≡ block → take (length bytes - at) (drop at bytes) ≡ drop at block
-from bytes block at same = take_rest bytes at ∙ ap (drop at) same
 
 pub loop-at-init : goal.loop-at-init
 loop-at-init c =
@@ -48,12 +40,12 @@ returns-then-not-is_zero c =
       | else-loop-at-test w ↦ get_or_past (drop at block) 0 0 (omega (arith, length-drop at block, w.loop-at-test.false))
     ] in
     ends_dirty (drop 32 block) (drop at block) c.loop-at.entries c.loop-at.invariant.all c.loop-at.invariant.read first
-    (λ zeros. false≢true (c.if-not-is_zero.ensures.1 (subst (λ (x : List ℕ). x ≡ replicate (length x) 0) (sym (from bytes block at same)) zeros)))
+    (λ zeros. false≢true (c.if-not-is_zero.ensures.1 (subst (λ (x : List ℕ). x ≡ replicate (length x) 0) (sym (whole_from bytes block at same)) zeros)))
 
 pub returns : goal.returns
 returns c =
     let at = c.loop-at.at in
     let block = c.args.block.now in
     let bytes = c.bytes-bytes.result.now in
-    let zeros = subst (λ (x : List ℕ). x ≡ replicate (length x) 0) (from bytes block at c.bytes-bytes.ensures.bytes) (c.if-not-is_zero.ensures.0 refl) in
+    let zeros = subst (λ (x : List ℕ). x ≡ replicate (length x) 0) (whole_from bytes block at c.bytes-bytes.ensures.bytes) (c.if-not-is_zero.ensures.0 refl) in
     ends_clean (drop 32 block) (drop at block) c.loop-at.entries c.loop-at.invariant.all c.loop-at.invariant.read zeros

@@ -1,0 +1,120 @@
+-- What the entries of a node tell of a key, taken one after the other.
+use Rattle.std.proofs.Common.{◌≡◌, ◌≢◌, ◌⊎◌, inl, inr, ℕ, zero, suc, ◌+◌, ◌-◌, ◌<◌, ◌≤◌, List, [], ◌∷◌, ◌++◌, length, drop, Option, Some, None, Bool, true, false, refl, sym, ap, subst, ◌∙◌, arith, append_assoc}
+use Rattle.std.specs.List.{AllByRecursion}
+use Rattle.std.specs.Option.{is_some, unwrap_or}
+use Rattle.std.specs.Ordering.{is_le}
+use Rattle.std.specs.declared.cmp.Ordering.{Ordering}
+use Rattle.std.specs.declared.cmp.Ordering.TheVariants.{Less, Equal, Greater}
+use Rattle.std.proofs.lemmas.Bool.{false≢true, true≢false}
+use Rattle.sea_node.specs.declared.lookup.Lookup.{Lookup}
+use Rattle.sea_node.specs.declared.lookup.Passed.{Passed}
+use Rattle.sea_node.specs.Entries.{Entry, IsBelow, IsNotAbove, key_order, IsRising, size}
+use Rattle.sea_node.specs.Lookup.{front_key, EndsAt, AreAbove, Finds, Tells, Passes, IsBehind, IsEnough}
+use Rattle.sea_node.proofs.Keys.{not_above_or_below, IsBelow-trans, not_below_itself, IsBelowAll, AreBelow, IsBelowAll-append, IsRising-one, IsRising-head, IsRising-tail, IsRising-append, IsRising-split}
+
+all_behind : (P : Entry → Type 0) (before rest : List Entry) → AllByRecursion P (before ++ rest) → AllByRecursion P rest
+all_behind P [] rest all = all
+all_behind P (b ∷ before) rest all = all_behind P before rest all.1
+
+-- ---- one entry more
+
+below_more : (before : List Entry) (last : Entry) (e : Entry) → IsRising (before ++ last ∷ []) → IsBelow last.0 e.0 → AreBelow (before ++ last ∷ []) (e ∷ [])
+below_more [] last e rising below = ((below, tt), tt)
+below_more (b ∷ before) last e rising below =
+    let first = all_behind (λ (d : Entry). IsBelow b.0 d.0) before (last ∷ []) (IsRising-head b (before ++ last ∷ []) rising) in
+    ((IsBelow-trans b.0 last.0 e.0 first.0 below, tt), below_more before last e (IsRising-tail b (before ++ last ∷ []) rising) below)
+
+pub rising_more : (es : List Entry) (e : Entry) (last : Option (List ℕ)) → IsRising es → EndsAt es last → IsBehind last e.0 → IsRising (es ++ e ∷ [])
+rising_more es e None rising ends behind = subst (λ (fs : List Entry). IsRising (fs ++ e ∷ [])) (sym ends) (IsRising-one e)
+rising_more es e (Some last) rising (before, value, split) behind =
+    let rises = subst IsRising split rising in
+    subst (λ (fs : List Entry). IsRising (fs ++ e ∷ [])) (sym split) (IsRising-append (before ++ (last, value) ∷ []) (e ∷ []) rises (IsRising-one e) (below_more before (last, value) e rises behind))
+
+pub behind_last : (es : List Entry) (e : Entry) (last : Option (List ℕ)) → EndsAt es last → IsRising (es ++ e ∷ []) → IsBehind last e.0
+behind_last es e None ends rising = tt
+behind_last es e (Some last) (before, value, split) rising =
+    let whole = subst (λ (fs : List Entry). IsRising (fs ++ e ∷ [])) split rising in
+    let below = (IsRising-split (before ++ (last, value) ∷ []) (e ∷ []) whole).2 in
+    (all_behind (λ (d : Entry). IsBelowAll d.0 (e ∷ [])) before ((last, value) ∷ []) below).0.0
+
+-- the first key, where one entry more comes
+pub first_more : (es : List Entry) (e : Entry) (first : Option (List ℕ)) → first ≡ front_key es → Some (unwrap_or first e.0) ≡ front_key (es ++ e ∷ [])
+first_more [] e first is = ap (λ (f : Option (List ℕ)). Some (unwrap_or f e.0)) is
+first_more (x ∷ es) e first is = ap (λ (f : Option (List ℕ)). Some (unwrap_or f e.0)) is
+
+no_first : (es : List Entry) → None ≡ front_key es → es ≡ []
+no_first [] none = refl
+no_first (x ∷ es) none = absurd (cc)
+
+pub finds_found : (key : List ℕ) (es : List Entry) (e : Entry) → IsNotAbove e.0 key → Finds key (es ++ e ∷ []) (Some e) None
+finds_found key es e le = (es, [], refl, le, tt, refl)
+
+pub finds_next : (key : List ℕ) (es : List Entry) (e : Entry) (found : Option Entry) → Finds key es found None → IsBelow key e.0 → Finds key (es ++ e ∷ []) found (Some e.0)
+finds_next key es e None (above, none) below =
+    subst (λ (fs : List Entry). Finds key (fs ++ e ∷ []) None (Some e.0)) (sym (no_first es none)) ((below, tt), refl)
+finds_next key es e (Some x) (before, after, split, le, above, none) below =
+    let whole : es ++ e ∷ [] ≡ before ++ x ∷ e ∷ [] =
+    ap (λ (fs : List Entry). fs ++ e ∷ []) (split ∙ ap (λ (fs : List Entry). before ++ x ∷ fs) (no_first after none)) ∙ append_assoc before (x ∷ []) (e ∷ []) in
+    (before, e ∷ [], whole, le, (below, tt), refl)
+
+above_more : (key : List ℕ) (es : List Entry) (e : Entry) (next : List ℕ) → AreBelow es (e ∷ []) → AreAbove key es → Some next ≡ front_key es → AreAbove key (es ++ e ∷ []) × (Some next ≡ front_key (es ++ e ∷ []))
+above_more key [] e next below above is = absurd (cc)
+above_more key (x ∷ es) e next below above is =
+    (IsBelowAll-append key (x ∷ es) (e ∷ []) above (IsBelow-trans key x.0 e.0 above.0 below.0.0, tt), is)
+
+pub finds_kept : (key : List ℕ) (es : List Entry) (e : Entry) (found : Option Entry) (next : List ℕ) → IsRising (es ++ e ∷ []) → Finds key es found (Some next) → Finds key (es ++ e ∷ []) found (Some next)
+finds_kept key es e None next rising (above, is) = above_more key es e next (IsRising-split es (e ∷ []) rising).2 above is
+finds_kept key es e (Some x) next rising (before, after, split, le, above, is) =
+    let below = subst (λ (fs : List Entry). AreBelow fs (e ∷ [])) split (IsRising-split es (e ∷ []) rising).2 in
+    let more = above_more key after e next (all_behind (λ (d : Entry). IsBelowAll d.0 (e ∷ [])) (before ++ x ∷ []) after (subst (λ (fs : List Entry). AreBelow fs (e ∷ [])) (sym (append_assoc before (x ∷ []) after)) below)) above is in
+    (before, after ++ e ∷ [], ap (λ (fs : List Entry). fs ++ e ∷ []) split ∙ append_assoc before (x ∷ after) (e ∷ []), le, more.0, more.1)
+
+-- once a key above was met, what is found stays
+pub finds_still : (key : List ℕ) (es : List Entry) (e : Entry) (found : Option Entry) (next : Option (List ℕ)) → is_some next ≡ true → IsRising (es ++ e ∷ []) → Finds key es found next → Finds key (es ++ e ∷ []) found next
+finds_still key es e found None is rising finds = absurd (false≢true is)
+finds_still key es e found (Some next) is rising finds = finds_kept key es e found next rising finds
+
+pub none_met : (next : Option (List ℕ)) → is_some next ≡ false → next ≡ None
+none_met None is = refl
+none_met (Some next) is = absurd (true≢false is)
+
+pub not_above : (a b : List ℕ) → is_le (key_order a b) ≡ true → IsNotAbove a b
+not_above a b le above = false≢true (sym (ap is_le above) ∙ le)
+
+pub is_above : (a b : List ℕ) → is_le (key_order a b) ≡ false → IsBelow b a
+is_above a b le = elim (not_above_or_below a b) [ inl not ↦ absurd (by (key_order a b) refl not le) | inr above ↦ above ]
+  where
+    by : (o : Ordering) → key_order a b ≡ o → IsNotAbove a b → is_le o ≡ false → ⊥
+    by Less e not le = true≢false le
+    by Equal e not le = true≢false le
+    by Greater e not le = not e
+
+-- ---- what entries for a node tell
+
+pub not_none : (key : List ℕ) (es : List Entry) (level : ℕ) (passed : Passed) → Passes key es passed → IsEnough level es → (passed.first ≡ None → ⊥) × (passed.last ≡ None → ⊥)
+not_none key es level passed passes enough = (
+  (λ none. let empty = no_first es (sym none ∙ passes.first_is) in absurd (omega (arith, enough.0, ap length empty))),
+  (λ none. let empty = subst (EndsAt es) none passes.last_is in absurd (omega (arith, enough.0, ap length empty))),
+)
+
+-- the first key is the last of one entry alone
+pub one_alone : (es : List Entry) (key : List ℕ) → IsRising es → Some key ≡ front_key es → EndsAt es (Some key) → 2 ≤ length es → ⊥
+one_alone es key rising first ([], value, split) several = omega (arith, ap length split)
+one_alone es key rising first (b ∷ before, value, split) several =
+    let below = all_behind (λ (d : Entry). IsBelow b.0 d.0) before ((key, value) ∷ []) (IsRising-head b (before ++ (key, value) ∷ []) (subst IsRising split rising)) in
+    let same : key ≡ b.0 = (let e = first ∙ ap front_key split in cc) in
+    not_below_itself key (subst (λ (k : List ℕ). IsBelow k key) (sym same) below.0)
+
+pub several : (es : List Entry) (first last : List ℕ) → Some first ≡ front_key es → EndsAt es (Some last) → first ≢ last → 2 ≤ length es
+several [] first last is ends other = absurd (cc)
+several (x ∷ []) first last is ([], value, split) other = absurd (other (let e : Some first ≡ Some last = is ∙ ap front_key split in cc))
+several (x ∷ []) first last is (b ∷ before, value, split) other = absurd (omega (arith, ap length split, length_push before (last, value)))
+  where
+    length_push : (es : List Entry) (e : Entry) → 1 ≤ length (es ++ e ∷ [])
+    length_push [] e = omega arith
+    length_push (f ∷ es) e = omega arith
+several (x ∷ y ∷ es) first last is ends other = omega arith
+
+pub some_there : (es : List Entry) (first : List ℕ) → Some first ≡ front_key es → 1 ≤ length es
+some_there [] first is = absurd (cc)
+some_there (x ∷ es) first is = omega arith
