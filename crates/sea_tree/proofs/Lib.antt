@@ -8,6 +8,7 @@ pub mod Doing
 pub mod Frames
 pub mod Holding
 pub mod Leaves
+pub mod Lookups
 pub mod MendCut
 pub mod MendJoin
 pub mod MendNear

@@ -4,6 +4,7 @@ pub mod Changing
 pub mod Content
 pub mod Cut
 pub mod Does
+pub mod Lookup
 pub mod Mending
 pub mod Place
 pub mod Plan

@@ -18,6 +18,9 @@ use std::alloc::Global;
 /// A child has these bytes of entries at least.
 pub(crate) const LEAST_BYTES: u32 = 1016;
 
+/// A node has these bytes of entries at most.
+pub(crate) const MOST_BYTES: usize = 4064;
+
 /// What a node's parent asks of it beside its level.
 #[derive(Debug, Drop)]
 pub(crate) struct Bounds {
@@ -83,8 +86,8 @@ impl Bounds {
     }
 }
 
-// Whether a key is below a bound, if there is one.
-fn is_below(key: &Key, bound: Option<&Key>) -> bool
+/// Whether a key is below a bound, if there is one.
+pub(crate) fn is_below(key: &Key, bound: Option<&Key>) -> bool
     ensures { IsTrue result ↔ IsWithin key.now (option_copied bound.entry) }
 {
     match bound {
@@ -101,6 +104,14 @@ pub(crate) fn child_at(node: &Node, index: usize) -> Laddr
     ensures { (before after : List Entry) (entry : Entry) → Splits node.now.entries index before entry after → IsAddress entry.1 result.0 }
 {
     Laddr(u64_at(node.entries.items()[index].1.bytes(), 0))
+}
+
+/// The address that a value leads to.
+pub(crate) fn address_of(value: &Data) -> Laddr
+    requires { length value.now ≡ 8 }
+    ensures { IsAddress value.now result.0 }
+{
+    Laddr(u64_at(value.bytes(), 0))
 }
 
 /// The value that leads to an address.

@@ -9,22 +9,18 @@ ghost use Rattle.sea_tree.specs.Calls.{Meets, pairs_above, IsWayFault, IsRangeFa
 ghost use Rattle.sea_tree.specs.Range.{is_above, entries_above};
 
 use crate::TreeFault;
+use crate::lookup::look_up;
 use crate::place::Bounds;
 use crate::way::{way_after, way_to};
 use sea_base::{Data, Duplicate, Key, Laddr, NoMemory, Pairs, Space};
-use sea_node::Node;
+use sea_node::{Lookup, Node};
 use std::alloc::Global;
 
 #[cfg(test)]
 pub(crate) mod tests;
 
 /// The value under a key.
-pub fn get<S: Space>(
-    alloc: Global,
-    space: &mut S,
-    root: Laddr,
-    key: &Key,
-) -> Result<Option<Data>, TreeFault>
+pub fn get<S: Space>(space: &mut S, root: Laddr, key: &Key) -> Result<Option<Data>, TreeFault>
     requires { IsTrue (S.ready space.old) }
     ensures value { IfOk result (λ found. (store : Store) (content : Values)
         → Meets store root.0 (S.seen space.old) (S.seen space.new) content → found ≡ map.get content key.now) }
@@ -35,14 +31,14 @@ pub fn get<S: Space>(
     ensures tells { S.tells space.new ≡ S.tells space.old }
     ensures ready { IsTrue (S.ready space.new) }
 {
-    let Some(way) = way_to(alloc, space, root, key)? else {
+    let Some(lookup) = look_up(space, root, key)? else {
         return Ok(None);
     };
-    let found = match value_of(&way.leaf, key) {
-        Some(value) => Some(value.copy()?),
-        None => None,
-    };
-    Ok(found)
+    let Lookup { found, .. } = lookup;
+    match found {
+        Some((at, value)) if at == *key => Ok(Some(value)),
+        _ => Ok(None),
+    }
 }
 
 /// The value that a node has under a key.

@@ -4,7 +4,7 @@ ghost use Rattle.std.specs.Option.{option_copied};
 ghost use Rattle.sea_base.specs.Faults.{IsCause};
 ghost use Rattle.sea_base.specs.Space.{Store, Agrees, laid, IsKnown, OnlyRead};
 ghost use Rattle.sea_node.specs.Entries.{size};
-ghost use Rattle.sea_tree.specs.Tree.{root_bounds, IsAddress};
+ghost use Rattle.sea_tree.specs.Tree.{root_bounds};
 ghost use Rattle.sea_tree.specs.Breaks.{HasNode};
 ghost use Rattle.sea_tree.specs.Does.{Change, Does, overlaid};
 ghost use Rattle.sea_tree.specs.Plan.{change_of, changes_of, count_filled};
@@ -15,14 +15,11 @@ ghost use Rattle.sea_tree.specs.Changing.{root_entries, RootSplits, RootSinks, R
 use crate::TreeFault;
 use crate::cut::{halves, size_of};
 use crate::edit::Edit;
-use crate::place::{Bounds, value_of};
+use crate::place::{Bounds, MOST_BYTES, address_of, value_of};
 use crate::plan::{Plan, Write, plan_edit, plan_gone, plan_node};
-use sea_base::{Block, Data, Duplicate, Laddr, NoMemory, Pairs, Space, SpaceFault, u64_at};
+use sea_base::{Block, Duplicate, Laddr, NoMemory, Pairs, Space, SpaceFault};
 use sea_node::Node;
 use std::alloc::Global;
-
-// A node has these bytes of entries at most.
-const MOST_BYTES: usize = 4064;
 
 // The highest level that a node has.
 const TOP_LEVEL: u32 = 7;
@@ -151,14 +148,6 @@ fn sink_root<S: Space>(
         None => plan_gone(plan, root)?,
     }
     Ok(plan_gone(plan, child)?)
-}
-
-// The address that a value leads to.
-fn address_of(value: &Data) -> Laddr
-    requires { length value.now ≡ 8 }
-    ensures { IsAddress value.now result.0 }
-{
-    Laddr(u64_at(value.bytes(), 0))
 }
 
 // What stands at an address once the plan is carried out.

@@ -14,15 +14,12 @@ use crate::TreeFault;
 use crate::cut::{halves, size_of};
 use crate::edit::Edit;
 use crate::neighbours::Neighbours;
-use crate::place::{LEAST_BYTES, value_of};
+use crate::place::{LEAST_BYTES, MOST_BYTES, value_of};
 use crate::plan::{Plan, plan_edit, plan_gone, plan_node};
 use crate::way::Step;
 use sea_base::{Duplicate, Laddr, NoMemory, Space, SpaceFault};
 use sea_node::Node;
 use std::alloc::Global;
-
-// A node has these bytes of entries at most.
-const MOST_BYTES: usize = 4064;
 
 /// Plans to write a node below the root with its edit, or to split it, or to even it out with a neighbour.
 /// Answers what is left to do in its parent.

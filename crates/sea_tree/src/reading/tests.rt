@@ -42,13 +42,10 @@ fn a_leaf_tells_its_pairs(rt: HostRuntime) -> Result<(), Fail> {
     let mut space = MapSpace::new(alloc, Nths::new(alloc));
     let root = space.alloc(1)?;
     let key = Key::new(alloc, b"b")?;
-    assert!(rt; get(alloc, &mut space, root, &key)?.is_none());
+    assert!(rt; get(&mut space, root, &key)?.is_none());
     let entries = [1, 0, 1, b'a', 7, 1, 0, 1, b'b', 8, 1, 0, 0, b'c'];
     space.put(root, block_of(alloc, 0, &entries)?)?;
-    assert_eq!(rt;
-        get(alloc, &mut space, root, &key)?,
-        Some(Data::new(alloc, &[8])?)
-    );
+    assert_eq!(rt; get(&mut space, root, &key)?, Some(Data::new(alloc, &[8])?));
     assert_eq!(rt;
         keys_above(alloc, &mut space, root, None, 9)?.as_slice(),
         b"abc".as_slice()
@@ -97,7 +94,7 @@ fn a_failed_get_is_answered(rt: HostRuntime) -> Result<(), Fail> {
     let mut space = MapSpace::new(alloc, fails);
     let root = space.alloc(1)?;
     let key = Key::new(alloc, b"a")?;
-    let failed = get(alloc, &mut space, root, &key);
+    let failed = get(&mut space, root, &key);
     assert_eq!(rt; failed, Err(TreeFault::Space(SpaceFault::DeviceFault)));
     Ok(())
 }

@@ -1,0 +1,145 @@
+//! A key looked up in a tree, by one block a level and with no list of a node's entries.
+ghost use Rattle.std.specs.Prelude.{◌≡◌, ℕ, ◌≤◌, List, None, IsTrue, IfOk, IfSome, IfNone, OnOk, IfErr, ◌↔◌, length};
+ghost use Rattle.std.specs.Option.{option_copied, option_or, MatchOption};
+ghost use Rattle.sea_base.specs.Space.{IsKnown, OnlyRead};
+ghost use Rattle.sea_node.specs.Entries.{Entry};
+ghost use Rattle.sea_node.specs.Node.{IsNode};
+ghost use Rattle.sea_node.specs.Lookup.{Tells};
+ghost use Rattle.sea_tree.specs.Tree.{root_bounds, IsAddress, IsInPlace, IsWithin};
+ghost use Rattle.sea_tree.specs.Breaks.{HasNode};
+ghost use Rattle.sea_tree.specs.Calls.{IsWayFault, IsWholeWay};
+ghost use Rattle.sea_tree.specs.Place.{meant, IsPlaceFault, IsRootFault};
+ghost use Rattle.sea_tree.specs.Lookup.{LooksAtLeaf};
+
+use crate::TreeFault;
+use crate::place::{Bounds, LEAST_BYTES, address_of, is_below};
+use sea_base::{Key, Laddr, Space};
+use sea_node::{Lookup, Node};
+
+/// What the leaf that a key leads to tells of it. There is none in an empty tree.
+pub(crate) fn look_up<S: Space>(
+    space: &mut S,
+    root: Laddr,
+    key: &Key,
+) -> Result<Option<Lookup>, TreeFault>
+    requires { IsTrue (S.ready space.old) }
+    ensures leaf { IfOk result (λ found. IfSome found (LooksAtLeaf (S.seen space.new) root.0 key.now)) }
+    ensures none { IfOk result (λ found. IfNone found ((S.seen space.new).view root.0 ≡ None)) }
+    ensures known { OnOk result (IsKnown (S.seen space.new) root.0) }
+    ensures whole { OnOk result (IsWholeWay root.0 key.now (S.seen space.old) (S.seen space.new)) }
+    ensures fault { IfErr result (IsWayFault root.0 key.now (S.seen space.old) (S.seen space.new) (S.faults space.old) (S.faults space.new) (S.tells space.old)) }
+    ensures reads { OnlyRead (S.seen space.old) (S.seen space.new) }
+    ensures later { S.faults space.old ≤ S.faults space.new }
+    ensures tells { S.tells space.new ≡ S.tells space.old }
+    ensures ready { IsTrue (S.ready space.new) }
+{
+    prove!(!key.bytes().is_empty());
+    let Some(mut lookup) = look_at_root(space, root, key)? else {
+        return Ok(None);
+    };
+    let mut upper = None;
+    'down: while lookup.level > 0 {
+        let level = lookup.level - 1;
+        let (at, bounds) = child_of(lookup, upper);
+        lookup = look_at(space, at, level, &bounds, key)?;
+        upper = bounds.upper;
+    }
+    Ok(Some(lookup))
+}
+
+// The address and the bounds of the child that the key leads to, in a node with this upper bound.
+fn child_of(lookup: Lookup, upper: Option<Key>) -> (Laddr, Bounds)
+    requires { MatchOption lookup.found ⊥ (λ entry. length entry.1 ≡ 8) }
+    ensures address { IfSome lookup.found (λ entry. IsAddress entry.1 result.0.0) }
+    ensures bounds { IfSome lookup.found (λ entry. meant result.1 ≡ record { least = 1016; lower = entry.0; upper = option_or lookup.next upper }) }
+{
+    let Lookup { found, next, .. } = lookup;
+    let (lower, value) = found.unwrap();
+    let bounds = Bounds {
+        least: LEAST_BYTES,
+        lower,
+        upper: next.or(upper),
+    };
+    (address_of(&value), bounds)
+}
+
+// What the node at an address in its place tells of a key.
+fn look_at<S: Space>(
+    space: &mut S,
+    at: Laddr,
+    level: u32,
+    bounds: &Bounds,
+    key: &Key,
+) -> Result<Lookup, TreeFault>
+    requires { IsTrue (S.ready space.old) }
+    ensures level { IfOk result (λ lookup. lookup.level ≡ level) }
+    ensures node { IfOk result (λ lookup. (entries : List Entry) × HasNode (S.seen space.new).view level at.0 (meant bounds.now) entries × Tells key.now entries lookup) }
+    ensures known { OnOk result (IsKnown (S.seen space.new) at.0) }
+    ensures fault { IfErr result (IsPlaceFault level at.0 (meant bounds.now) (S.seen space.new) (S.faults space.old) (S.faults space.new) (S.tells space.old)) }
+    ensures reads { OnlyRead (S.seen space.old) (S.seen space.new) }
+    ensures later { S.faults space.old ≤ S.faults space.new }
+    ensures tells { S.tells space.new ≡ S.tells space.old }
+    ensures ready { IsTrue (S.ready space.new) }
+{
+    let Some(block) = space.get(at)? else {
+        return Err(TreeFault::Broken { at });
+    };
+    let Some(lookup) = Node::look_up(&block, key)? else {
+        return Err(TreeFault::Broken { at });
+    };
+    if lookup.level != level || !admits(bounds, &lookup) {
+        return Err(TreeFault::Broken { at });
+    }
+    Ok(lookup)
+}
+
+// Whether a node of which this is told is in its place.
+fn admits(bounds: &Bounds, lookup: &Lookup) -> bool
+    ensures { (key : List ℕ) (entries : List Entry) → IsNode lookup.now.level entries → Tells key entries lookup.now
+        → IsTrue result ↔ IsInPlace lookup.now.level (meant bounds.now) entries }
+{
+    if lookup.size < bounds.least as usize || !is_below(&lookup.last, bounds.upper.as_ref()) {
+        return false;
+    }
+    if lookup.level == 0 {
+        bounds.lower <= lookup.first
+    } else {
+        bounds.lower == lookup.first
+    }
+}
+
+// What the root of a tree tells of a key, or nothing where the tree is empty.
+fn look_at_root<S: Space>(
+    space: &mut S,
+    root: Laddr,
+    key: &Key,
+) -> Result<Option<Lookup>, TreeFault>
+    requires { IsTrue (S.ready space.old) }
+    ensures node { IfOk result (λ found. IfSome found (λ lookup. (entries : List Entry) × HasNode (S.seen space.new).view lookup.level root.0 root_bounds entries × Tells key.now entries lookup)) }
+    ensures none { IfOk result (λ found. IfNone found ((S.seen space.new).view root.0 ≡ None)) }
+    ensures known { OnOk result (IsKnown (S.seen space.new) root.0) }
+    ensures fault { IfErr result (IsRootFault root.0 (S.seen space.new) (S.faults space.old) (S.faults space.new) (S.tells space.old)) }
+    ensures reads { OnlyRead (S.seen space.old) (S.seen space.new) }
+    ensures later { S.faults space.old ≤ S.faults space.new }
+    ensures tells { S.tells space.new ≡ S.tells space.old }
+    ensures ready { IsTrue (S.ready space.new) }
+{
+    let Some(block) = space.get(root)? else {
+        return Ok(None);
+    };
+    let Some(lookup) = Node::look_up(&block, key)? else {
+        return Err(TreeFault::Broken { at: root });
+    };
+    if !is_root(&lookup) {
+        return Err(TreeFault::Broken { at: root });
+    }
+    Ok(Some(lookup))
+}
+
+// Whether a node of which this is told may be a root: above the leaves its first key is the byte 0.
+fn is_root(lookup: &Lookup) -> bool
+    ensures { (key : List ℕ) (entries : List Entry) → IsNode lookup.now.level entries → Tells key entries lookup.now
+        → IsTrue result ↔ IsInPlace lookup.now.level root_bounds entries }
+{
+    lookup.level == 0 || lookup.first.bytes() == [0].as_slice()
+}
