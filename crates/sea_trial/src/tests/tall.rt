@@ -1,0 +1,68 @@
+use super::filled;
+use super::twin::Twin;
+use crate::fault::TrialFault;
+use sea_base::Key;
+use std::alloc::Global;
+use std::process::Abort;
+
+const PAIRS: u64 = 4000;
+
+// The key of 64 digits of this number's place in an order that is none of the numbers'.
+fn digits(alloc: Global, number: u64, stride: u64) -> Result<Key, TrialFault> {
+    let place = number.wrapping_mul(stride) % PAIRS;
+    let text = format!(in alloc; "{place:064}")?;
+    Ok(Key::new(alloc, text.as_bytes())?)
+}
+
+// Puts the pair of a number, whose value has 1,024 bytes.
+fn put_number(
+    rt: &impl Abort,
+    alloc: Global,
+    twin: &mut Twin,
+    number: u64,
+) -> Result<(), TrialFault> {
+    let key = digits(alloc, number, 1237)?;
+    let value = filled(alloc, 7, 1024)?;
+    twin.put(rt, key, value)
+}
+
+// Checks the tree at each tenth number.
+fn check_some(rt: &impl Abort, twin: &mut Twin, number: u64) -> Result<(), TrialFault> {
+    if number % 10 == 0 {
+        twin.check(rt)?;
+    }
+    Ok(())
+}
+
+// Puts all pairs, and answers how many levels the tree came to have, one after the other.
+fn grow(rt: &impl Abort, alloc: Global, twin: &mut Twin) -> Result<u8, TrialFault> {
+    let mut levels = 0u8;
+    for number in 0..PAIRS {
+        put_number(rt, alloc, twin, number)?;
+        if twin.level()? == levels {
+            levels = levels.saturating_add(1);
+        }
+        check_some(rt, twin, number)?;
+    }
+    Ok(levels)
+}
+
+// Takes all pairs out, in another order.
+fn shrink(rt: &impl Abort, alloc: Global, twin: &mut Twin) -> Result<(), TrialFault> {
+    for number in 0..PAIRS {
+        let key = digits(alloc, number, 3301)?;
+        twin.del(rt, &key)?;
+        check_some(rt, twin, number)?;
+    }
+    Ok(())
+}
+
+#[test]
+fn long_pairs_make_a_tall_tree(rt: HostRuntime) -> Result<(), TrialFault> {
+    let alloc = rt.alloc();
+    let mut twin = Twin::new(alloc);
+    assert!(rt; grow(&rt, alloc, &mut twin)? == 4);
+    shrink(&rt, alloc, &mut twin)?;
+    assert!(rt; twin.list().pairs().is_empty());
+    twin.check(&rt)
+}
