@@ -7,6 +7,7 @@ use sea_base::NoMemory;
 use sea_device::SteadyDevice;
 use sea_top::{Refusal, Status, tool};
 use std::process::ExitCode;
+use std::rt::Env;
 use std::{env, io};
 use streams::{StdSink, StdSource};
 
@@ -14,7 +15,12 @@ use streams::{StdSink, StdSource};
 const BLOCKS: u32 = 2049;
 
 fn main(rt: HostRuntime) -> ExitCode {
-    let status = run(&rt).unwrap_or(Refusal::NoMemory.status());
+    exit_code(&rt)
+}
+
+// Does the command, and answers its status.
+fn exit_code(rt: &HostRuntime) -> ExitCode {
+    let status = run(rt).unwrap_or(Refusal::NoMemory.status());
     ExitCode::from(status.0)
 }
 
@@ -29,10 +35,13 @@ fn run(rt: &HostRuntime) -> Result<Status, NoMemory> {
 }
 
 // The words behind the program's name.
-fn words(rt: &HostRuntime) -> io::Result<Vec<String>> {
+fn words(rt: &(impl Env + AllocGlobal)) -> io::Result<Vec<String>> {
     let mut words = Vec::new(rt.alloc());
     for word in env::args(rt)?.skip(1) {
         words.push(word)?;
     }
     Ok(words)
 }
+
+#[cfg(test)]
+mod tests;
