@@ -1,6 +1,10 @@
 //! The store in memory: its words are the command, standard input the script, standard output the replies.
 #![tactic(auto)]
 
+ghost use Rattle.std.specs.Prelude.{◌≡◌, IfOk, OnErr};
+ghost use Rattle.std.specs.Process.{exit_status};
+ghost use Rattle.sea_top.specs.Refusal.{status_of};
+
 mod streams;
 
 use sea_base::NoMemory;
@@ -15,12 +19,15 @@ use streams::{StdSink, StdSource};
 const BLOCKS: u32 = 2049;
 
 fn main(rt: HostRuntime) -> ExitCode {
-    exit_code(&rt)
+    exit_code(run(&rt))
 }
 
-// Does the command, and answers its status.
-fn exit_code(rt: &HostRuntime) -> ExitCode {
-    let status = run(rt).unwrap_or(Refusal::NoMemory.status());
+// The status of a run as the exit code.
+fn exit_code(ended: Result<Status, NoMemory>) -> ExitCode
+    ensures status { IfOk ended (λ status. exit_status result ≡ status.0) }
+    ensures no_memory { OnErr ended (exit_status result ≡ status_of Refusal.NoMemory) }
+{
+    let status = ended.unwrap_or(Refusal::NoMemory.status());
     ExitCode::from(status.0)
 }
 
