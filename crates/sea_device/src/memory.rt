@@ -235,6 +235,7 @@ impl Device for MemDevice {
         requires within { 4096 * at.0 + length into.old ≤ 4096 * self.old.blocks }
         ensures exact { IsErr result ↔ IsDue self.old.reads }
         ensures bytes { OnOk result (into.new ≡ slice_range self.old.bytes.items (4096 * at.0) (4096 * at.0 + length into.old)) }
+        ensures failed { OnErr result (into.new ≡ into.old) }
         ensures device { self.new ≡ record self.old { reads = counted self.old.reads; faults = self.new.faults } }
         ensures faults { CountsFault self.old.faults self.new.faults result }
         ensures cause { HasCause self.old.faults self.new.faults result }
