@@ -1,15 +1,14 @@
 -- What the entries of a node tell of a key, taken one after the other.
-use Rattle.std.proofs.Common.{◌≡◌, ◌≢◌, ◌⊎◌, inl, inr, ℕ, zero, suc, ◌+◌, ◌-◌, ◌<◌, ◌≤◌, List, [], ◌∷◌, ◌++◌, length, drop, Option, Some, None, Bool, true, false, refl, sym, ap, subst, ◌∙◌, arith, append_assoc}
+use Rattle.std.proofs.Common.{◌≡◌, ◌≢◌, inl, inr, ℕ, ◌≤◌, List, [], ◌∷◌, ◌++◌, length, Option, Some, None, true, false, refl, sym, ap, subst, ◌∙◌, arith, append_assoc}
 use Rattle.std.specs.List.{AllByRecursion}
 use Rattle.std.specs.Option.{is_some, unwrap_or}
 use Rattle.std.specs.Ordering.{is_le}
 use Rattle.std.specs.declared.cmp.Ordering.{Ordering}
 use Rattle.std.specs.declared.cmp.Ordering.TheVariants.{Less, Equal, Greater}
 use Rattle.std.proofs.lemmas.Bool.{false≢true, true≢false}
-use Rattle.sea_node.specs.declared.lookup.Lookup.{Lookup}
 use Rattle.sea_node.specs.declared.lookup.Passed.{Passed}
-use Rattle.sea_node.specs.Entries.{Entry, IsBelow, IsNotAbove, key_order, IsRising, size}
-use Rattle.sea_node.specs.Lookup.{front_key, EndsAt, AreAbove, Finds, Tells, Passes, IsBehind, IsEnough}
+use Rattle.sea_node.specs.Entries.{Entry, IsBelow, IsNotAbove, key_order, IsRising}
+use Rattle.sea_node.specs.Lookup.{front_key, EndsAt, AreAbove, Finds, Passes, IsBehind, IsEnough}
 use Rattle.sea_node.proofs.Keys.{not_above_or_below, IsBelow-trans, not_below_itself, IsBelowAll, AreBelow, IsBelowAll-append, IsRising-one, IsRising-head, IsRising-tail, IsRising-append, IsRising-split}
 
 all_behind : (P : Entry → Type 0) (before rest : List Entry) → AllByRecursion P (before ++ rest) → AllByRecursion P rest

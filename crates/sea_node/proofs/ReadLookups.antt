@@ -1,13 +1,13 @@
 -- A look-up that goes through the entries of a block, and what it tells of the node that the block spells.
-use Rattle.std.proofs.Common.{◌≡◌, ◌≢◌, ℕ, ◌+◌, ◌-◌, ◌<◌, ◌≤◌, List, [], ◌∷◌, ◌++◌, length, get_or, drop, replicate, Some, None, refl, sym, ap, subst, ◌∙◌, arith, append_assoc, length-append, length-drop}
+use Rattle.std.proofs.Common.{◌≡◌, ◌≢◌, ℕ, ◌+◌, ◌-◌, ◌≤◌, List, [], ◌∷◌, ◌++◌, length, get_or, drop, replicate, refl, sym, ap, subst, ◌∙◌, arith, length-append, length-drop}
 use Rattle.std.specs.List.{AllByRecursion}
 use Rattle.std.proofs.lemmas.List.Elements.{All-from_recursion, recursion_from_All}
 use Rattle.sea_base.specs.Name.{IsName}
 use Rattle.sea_node.specs.declared.lookup.Passed.{Passed}
 use Rattle.sea_node.specs.Entries.{Entry, IsRising, size, entries_bytes}
-use Rattle.sea_node.specs.Node.{IsNode, Spells}
+use Rattle.sea_node.specs.Node.{Spells}
 use Rattle.sea_node.specs.Reading.{IsEntry, BeginsAtLevel, BeginsWithNoEntry, StandsAt, AreEntries}
-use Rattle.sea_node.specs.Lookup.{EndsAt, Passes, IsBehind, IsEnough}
+use Rattle.sea_node.specs.Lookup.{Passes, IsBehind, IsEnough}
 use Rattle.sea_node.proofs.Keys.{IsRising-nil, IsRising-split}
 use Rattle.sea_node.proofs.Nodes.{length-entries_bytes}
 use Rattle.sea_node.proofs.ReadNodes.{more_read, same_front, stops, ends_dirty, ends_clean, room_of, same_level, spelled_entries, node_read, only_read}

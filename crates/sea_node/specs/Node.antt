@@ -1,5 +1,5 @@
 -- Nodes of logical trees, and how a block spells one.
-use Rattle.std.specs.Prelude.{◌≡◌, ℕ, ◌+◌, ◌-◌, ◌≤◌, List, [], ◌∷◌, ◌++◌, length, replicate, codes}
+use Rattle.std.specs.Prelude.{◌≡◌, ℕ, ◌-◌, ◌≤◌, List, [], ◌∷◌, ◌++◌, length, replicate, codes}
 use Rattle.std.specs.List.{All}
 use Rattle.sea_base.specs.Name.{IsName}
 use Rattle.sea_node.specs.Entries.{Entry, IsRising, size, entries_bytes}

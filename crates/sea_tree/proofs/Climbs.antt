@@ -1,17 +1,15 @@
 -- A change carried up from a leaf to the root, as the code goes.
-use Rattle.std.proofs.Common.{◌≡◌, ◌≢◌, ◌⊎◌, ℕ, suc, ◌+◌, ◌<◌, ◌≤◌, ◌^◌, List, [], ◌∷◌, ◌++◌, length, Option, Some, None, refl, sym, ◌∙◌, ap, subst, inl, inr, arith}
+use Rattle.std.proofs.Common.{◌≡◌, ◌≢◌, ℕ, suc, ◌+◌, ◌<◌, ◌≤◌, ◌^◌, List, [], ◌∷◌, ◌++◌, length, Option, Some, None, refl, sym, ◌∙◌, ap, subst, inl, inr, arith}
 use Rattle.std.specs.Option.{IfSome}
 use Rattle.std.specs.FinMap as map
 use Rattle.sea_base.specs.Name.{IsName}
 use Rattle.sea_base.specs.Space.{Store, Seen, IsKnown, IsSound, Agrees, laid}
 use Rattle.sea_base.proofs.Spaces.{only_read-refl}
 use Rattle.sea_node.specs.Entries.{Entry, Values, size, edited}
-use Rattle.sea_node.specs.Node.{IsNode}
 use Rattle.sea_tree.specs.declared.edit.Edit.{Edit}
-use Rattle.sea_tree.specs.declared.edit.Edit.TheVariants.{Pair, Moved}
 use Rattle.sea_tree.specs.declared.way.Step.{Step}
 use Rattle.sea_tree.specs.declared.way.Way.{Way}
-use Rattle.sea_tree.specs.Tree.{NodeAt, Bounds, root_bounds, IsAddress, child_bounds}
+use Rattle.sea_tree.specs.Tree.{Bounds, root_bounds, IsAddress, child_bounds}
 use Rattle.sea_tree.specs.Content.{HasContent}
 use Rattle.sea_tree.specs.Breaks.{HasNode}
 use Rattle.sea_tree.specs.Calls.{Meets}
@@ -19,20 +17,20 @@ use Rattle.sea_tree.specs.Does.{Change, overlaid, Does}
 use Rattle.sea_tree.specs.Subtrees.{Holds}
 use Rattle.sea_tree.specs.Mending.{Aim, after_edit, IsNearPlace, Mending, Replaced}
 use Rattle.sea_tree.specs.Changing.{Changed, changed_content, IsPlanned, RootSettled, RootSinks}
-use Rattle.sea_tree.specs.Place.{Splits, meant}
+use Rattle.sea_tree.specs.Place.{meant}
 use Rattle.sea_tree.specs.Settled.{IsNearChild, Settled}
-use Rattle.sea_tree.specs.Way.{StepsDown, Descends, ComesDown, AreKnown, IsKnownWay}
+use Rattle.sea_tree.specs.Way.{StepsDown, ComesDown, AreKnown, IsKnownWay}
 use Rattle.sea_tree.proofs.Doing.{Does-then, Does-laid, Does-agrees, overlaid-append, overlaid-same}
 use Rattle.sea_tree.proofs.Holding.{one_node, node_held, same_address}
 use Rattle.sea_tree.proofs.Contents.{content_held}
-use Rattle.sea_tree.proofs.Ways.{laid_same, Descends-laid, StepsDown-same, HasNode-same, first_node, step_lies}
+use Rattle.sea_tree.proofs.Ways.{laid_same, Descends-laid, StepsDown-same, first_node, step_lies}
 use Rattle.sea_tree.proofs.Mending.{mending_begun, fits_replaced, replaced_changed}
 use Rattle.sea_tree.proofs.MendSplit.{IsFree, given_more}
 use Rattle.sea_tree.proofs.MendSides.{puts_one}
 use Rattle.sea_tree.proofs.MendRoot.{root_split_puts, root_split, root_sunk_puts, root_sunk, root_emptied}
-use Rattle.sea_tree.proofs.MendSettled.{IsMended, aim_to, settled_mended}
-use Rattle.sea_tree.proofs.MendWay.{LastStep, last_step, way_held, way_replaced}
-use Rattle.sea_tree.proofs.NearUp.{GrowsNear, near_up, same_split}
+use Rattle.sea_tree.proofs.MendSettled.{IsMended, settled_mended}
+use Rattle.sea_tree.proofs.MendWay.{last_step, way_held, way_replaced}
+use Rattle.sea_tree.proofs.NearUp.{near_up, same_split}
 
 -- what is aimed at, with what was given from one state to another
 abbrev pub aim_of : List ℕ → Option (List ℕ) → Seen → Seen → Aim

@@ -1,10 +1,10 @@
 -- A cut where the parts differ least leaves two parts of a good size.
-use Rattle.std.proofs.Common.{◌≡◌, ◌⊎◌, ℕ, zero, suc, ◌+◌, ◌-◌, ◌*◌, ◌<◌, ◌≤◌, List, [], ◌∷◌, ◌++◌, length, take, drop, refl, sym, ◌∙◌, ap, inl, inr, arith, slice_index_or}
+use Rattle.std.proofs.Common.{◌≡◌, ℕ, zero, suc, ◌+◌, ◌*◌, ◌<◌, ◌≤◌, List, [], ◌∷◌, length, take, drop, ap, inl, inr, arith, slice_index_or}
 use Rattle.std.proofs.Math.ListN.{drop_of_length-le}
 use Rattle.std.proofs.lemmas.Bool.{cases_lt}
 use Rattle.std.specs.List.{AllByRecursion}
 use Rattle.sea_node.specs.Entries.{Entry, entry_size, size}
-use Rattle.sea_node.proofs.Nodes.{size-append, size-cons, size-cut}
+use Rattle.sea_node.proofs.Nodes.{size-cons, size-cut}
 use Rattle.sea_tree.specs.Cut.{gap, difference, IsCut}
 
 -- Somewhere in the entries twice what stands before is as near to the whole as the largest entry is big.

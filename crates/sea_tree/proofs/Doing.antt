@@ -1,12 +1,12 @@
 -- What calls do one after the other to a transaction's view.
-use Rattle.std.proofs.Common.{◌≡◌, ◌≢◌, ◌⊎◌, ℕ, ◌+◌, ◌<◌, ◌≤◌, List, [], ◌∷◌, ◌++◌, Bool, true, false, cond, ◌||◌, ◌==◌, Option, Some, None, length, refl, sym, ◌∙◌, ap, subst, inl, inr, arith, length-append}
-use Rattle.std.proofs.lemmas.Bool.{cases_Bool, eqb-true, eqb-false, eq-eqb, true≢false}
+use Rattle.std.proofs.Common.{◌≡◌, ◌⊎◌, ℕ, ◌+◌, List, [], ◌∷◌, ◌++◌, Bool, true, false, cond, ◌||◌, ◌==◌, Option, Some, None, refl, sym, ◌∙◌, ap, inl, inr, arith, length-append}
+use Rattle.std.proofs.lemmas.Bool.{cases_Bool, eqb-true, eqb-false, true≢false}
 use Rattle.std.specs.List.{Contains}
 use Rattle.std.specs.Option.{IsSome, is_some}
 use Rattle.std.proofs.lemmas.List.Elements.{Contains-append_left, Contains-append_right}
-use Rattle.sea_base.specs.Space.{Store, Seen, Found, IsKnown, IsSound, Agrees, laid, OnlyRead, Writes, Gives}
-use Rattle.sea_base.proofs.Spaces.{known_later, laid_changed, laid_unchanged}
-use Rattle.sea_tree.specs.Does.{Change, overlaid, is_among, Does, IsAsBefore, ChangesAtMost}
+use Rattle.sea_base.specs.Space.{Store, Seen, IsKnown, Agrees, laid, OnlyRead, Writes, Gives}
+use Rattle.sea_base.proofs.Spaces.{laid_changed, laid_unchanged}
+use Rattle.sea_tree.specs.Does.{Change, overlaid, is_among, Does, ChangesAtMost}
 
 or_left : (a b : Bool) → a ≡ true → (a || b) ≡ true
 or_left true b e = refl

@@ -1,5 +1,5 @@
 -- What a lookup tells of the node that it looks at, and of the child that its key leads to.
-use Rattle.std.proofs.Common.{◌≡◌, ◌≢◌, ◌⊎◌, inl, inr, ℕ, suc, ◌-◌, ◌<◌, ◌≤◌, Bool, true, false, cond, List, [], ◌∷◌, ◌++◌, length, length-append, get_or, Option, Some, None, refl, sym, ap, subst, ◌∙◌, arith}
+use Rattle.std.proofs.Common.{◌≡◌, ℕ, suc, ◌-◌, ◌≤◌, Bool, cond, List, [], ◌∷◌, ◌++◌, length, length-append, get_or, Option, Some, None, refl, sym, ap, subst, ◌∙◌, arith}
 use Rattle.std.specs.Prelude.{IfSome}
 use Rattle.std.specs.Option.{MatchOption, option_or}
 use Rattle.std.specs.Ordering.{is_eq, ordering_reverse}
@@ -23,9 +23,9 @@ use Rattle.sea_tree.specs.Place.{Splits, IsPlaceFault}
 use Rattle.sea_tree.specs.Way.{ComesDown, IsWay}
 use Rattle.sea_tree.specs.Lookup.{LooksDown, LooksAtLeaf}
 use Rattle.sea_tree.proofs.Ways.{ComesDown-later, Descends-laid, no_break}
-use Rattle.sea_tree.proofs.WaySteps.{IsStep, comes_first, comes_further, step_fault}
+use Rattle.sea_tree.proofs.WaySteps.{IsStep, comes_further, step_fault}
 use Rattle.sea_tree.proofs.Leaves.{leaf_find}
-use Rattle.sea_tree.proofs.Places.{placed, first_within, first_same, last_within}
+use Rattle.sea_tree.proofs.Places.{placed, first_within, first_same}
 use Rattle.sea_tree.proofs.Splits.{All-middle, middle_at}
 
 -- ---- the pair under the key

@@ -1,11 +1,10 @@
 -- What the loop of a change needs at each of its turns, and what it ends with.
-use Rattle.std.proofs.Common.{◌≡◌, ◌⊎◌, ℕ, zero, suc, ◌+◌, ◌*◌, ◌<◌, ◌≤◌, ◌^◌, List, [], ◌∷◌, ◌++◌, length, Bool, true, false, Option, Some, None, refl, sym, ◌∙◌, ap, subst, inl, inr, arith, length-append}
+use Rattle.std.proofs.Common.{◌≡◌, ℕ, zero, suc, ◌+◌, ◌<◌, ◌≤◌, ◌^◌, List, [], ◌∷◌, ◌++◌, length, Bool, true, false, Option, Some, None, refl, sym, ◌∙◌, subst, inl, inr, arith}
 use Rattle.std.specs.Option.{IfSome}
 use Rattle.sea_base.specs.Name.{IsName}
-use Rattle.sea_base.specs.Faults.{IsCause}
 use Rattle.sea_base.specs.Space.{Store, Seen, IsKnown, IsSound, Agrees, laid}
 use Rattle.sea_base.proofs.Spaces.{only_read-refl}
-use Rattle.sea_node.specs.Entries.{Entry, edited, size}
+use Rattle.sea_node.specs.Entries.{Entry, edited}
 use Rattle.sea_node.specs.Node.{IsNode}
 use Rattle.sea_tree.specs.declared.edit.Edit.{Edit}
 use Rattle.sea_tree.specs.declared.fault.TreeFault.{TreeFault}
@@ -13,20 +12,20 @@ use Rattle.sea_tree.specs.declared.fault.TreeFault.TheVariants.{Space, Broken}
 use Rattle.sea_tree.specs.declared.way.Step.{Step}
 use Rattle.sea_tree.specs.declared.way.Way.{Way}
 use Rattle.sea_tree.specs.Tree.{Bounds, root_bounds}
-use Rattle.sea_tree.specs.Breaks.{HasNode, IsBroken, Child, BreaksBelow, Breaks, IsFull}
+use Rattle.sea_tree.specs.Breaks.{HasNode, IsBroken, Child, BreaksBelow}
 use Rattle.sea_tree.specs.Calls.{IsChangeFault, IsRootSettleFault}
 use Rattle.sea_tree.specs.Does.{Change, Does}
 use Rattle.sea_tree.specs.Mending.{after_edit, IsNearPlace}
 use Rattle.sea_tree.specs.Changing.{IsPlanned, RootSettled}
 use Rattle.sea_tree.specs.Place.{meant}
 use Rattle.sea_tree.specs.Settled.{IsNearChild, Settled, IsSettleFault}
-use Rattle.sea_tree.specs.Way.{StepsDown, Descends, ComesDown, IsKnownWay}
+use Rattle.sea_tree.specs.Way.{Descends, ComesDown, IsKnownWay}
 use Rattle.sea_tree.proofs.Doing.{Does-read, Does-known, Does-laid, Does-agrees}
 use Rattle.sea_tree.proofs.MendNear.{IsNearPlace-edited}
 use Rattle.sea_tree.proofs.Splits.{middle_within}
-use Rattle.sea_tree.proofs.Ways.{laid_same, Descends-laid, HasNode-same, first_node}
+use Rattle.sea_tree.proofs.Ways.{Descends-laid, HasNode-same, first_node}
 use Rattle.sea_tree.proofs.WaySteps.{cause_since}
-use Rattle.sea_tree.proofs.Climbs.{Climbs, climbs_begun, Above, step_above, child_near, climbs_up, climbs_done, climbs_rooted}
+use Rattle.sea_tree.proofs.Climbs.{Climbs, climbs_begun, step_above, child_near, climbs_up, climbs_done, climbs_rooted}
 
 -- the steps of a way are as many as the levels that it goes down
 descends_by : (s : Store) (level at : ℕ) (bounds : Bounds) (steps : List Step) (key : List ℕ) (n q : ℕ) (b : Bounds) → Descends s level at bounds steps key n q b → level ≡ length steps + n

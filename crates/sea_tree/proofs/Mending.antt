@@ -8,7 +8,7 @@ use Rattle.sea_base.specs.Name.{IsName}
 use Rattle.sea_base.specs.Space.{Store, Seen, laid}
 use Rattle.sea_node.specs.Entries.{Entry, Values, IsNotAbove, size, edited}
 use Rattle.sea_node.specs.Node.{IsNode, node_bytes}
-use Rattle.sea_tree.specs.Tree.{Bounds, root_bounds, IsWithin, child_bounds, IsAddress, IsTree, IsNodeOf, AreApart}
+use Rattle.sea_tree.specs.Tree.{Bounds, root_bounds, IsWithin, child_bounds, IsAddress, IsTree, IsNodeOf}
 use Rattle.sea_tree.specs.Content.{HasContent}
 use Rattle.sea_tree.specs.Breaks.{HasNode}
 use Rattle.sea_tree.specs.Calls.{Becomes}

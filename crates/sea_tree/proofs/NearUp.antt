@@ -1,6 +1,5 @@
 -- What settling a node leaves to its parent keeps the parent near its place.
-use Rattle.std.proofs.Common.{◌≡◌, ◌⊎◌, ℕ, suc, ◌+◌, ◌<◌, ◌≤◌, List, [], ◌∷◌, ◌++◌, length, Option, Some, None, refl, sym, ◌∙◌, ap, subst, inl, inr, arith, append_assoc, length-append}
-use Rattle.std.specs.List.{All}
+use Rattle.std.proofs.Common.{◌≡◌, ℕ, suc, ◌+◌, ◌≤◌, List, [], ◌∷◌, ◌++◌, length, Option, Some, None, sym, ◌∙◌, ap, subst, inl, inr, arith, append_assoc, length-append}
 use Rattle.std.specs.Option.{IfSome}
 use Rattle.sea_base.specs.Field.{big_endian}
 use Rattle.sea_base.specs.Name.{IsName}
@@ -14,14 +13,12 @@ use Rattle.sea_tree.specs.declared.edit.Edit.{Edit}
 use Rattle.sea_tree.specs.declared.edit.Edit.TheVariants.{Pair, Moved}
 use Rattle.sea_tree.specs.declared.way.Step.{Step}
 use Rattle.sea_tree.specs.Tree.{Bounds, IsInPlace, IsWithin, LiesWithin, child_bounds, next_key, first_key}
-use Rattle.sea_tree.specs.Breaks.{HasNode}
 use Rattle.sea_tree.specs.Does.{Change}
-use Rattle.sea_tree.specs.Mending.{after_edit, IsNearPlace, IsPart}
-use Rattle.sea_tree.specs.Place.{Splits}
-use Rattle.sea_tree.specs.Settled.{Fits, SplitsInTwo, Neighbours, Joins, Cuts, Settled}
+use Rattle.sea_tree.specs.Mending.{after_edit, IsNearPlace}
+use Rattle.sea_tree.specs.Settled.{Neighbours, Settled}
 use Rattle.sea_tree.specs.Way.{StepsDown}
 use Rattle.sea_tree.proofs.Splits.{All-middle, All-middle_next, lies_above}
-use Rattle.sea_tree.proofs.MendNear.{IsNearPlace-edited, IsNearPlace-moved, size-edited_inner, size-moved_inner, Halves, halves}
+use Rattle.sea_tree.proofs.MendNear.{IsNearPlace-edited, IsNearPlace-moved, size-edited_inner, size-moved_inner, halves}
 use Rattle.sea_tree.proofs.MendPair.{AreInPlace, AreInPlace-near, AreInPlace-node, AreInPlace-append}
 use Rattle.sea_tree.proofs.MendCut.{halves_placed}
 

@@ -1,5 +1,5 @@
 -- What a change of one pair does, from its reads to its writes.
-use Rattle.std.proofs.Common.{◌≡◌, ◌≢◌, ◌⊎◌, ℕ, ◌+◌, ◌<◌, ◌≤◌, ◌^◌, List, [], ◌∷◌, ◌++◌, Bool, true, false, cond, Option, Some, None, length, refl, sym, ◌∙◌, ap, subst, inl, inr, arith}
+use Rattle.std.proofs.Common.{◌≡◌, ◌⊎◌, ℕ, ◌+◌, ◌≤◌, ◌^◌, List, [], ◌∷◌, Bool, true, false, cond, Option, Some, None, length, refl, sym, ◌∙◌, ap, subst, inl, inr, arith}
 use Rattle.std.proofs.Math.Path.{fun_ext}
 use Rattle.std.specs.FinMap as map
 use Rattle.std.specs.FinMap.{same_map, get-remove}
@@ -7,10 +7,9 @@ use Rattle.std.specs.Ordering.{eq_by_cmp, is_eq}
 use Rattle.std.specs.declared.cmp.Ordering.{Ordering}
 use Rattle.std.specs.declared.cmp.Ordering.TheVariants.{Less, Equal, Greater}
 use Rattle.sea_base.specs.Name.{IsName}
-use Rattle.sea_base.specs.Faults.{IsCause}
 use Rattle.sea_base.specs.Space.{Store, Seen, IsKnown, IsSound, Agrees, laid, OnlyRead}
-use Rattle.sea_base.proofs.Spaces.{laid_known, agrees_before}
-use Rattle.sea_node.specs.Entries.{Entry, Values, key_order}
+use Rattle.sea_base.proofs.Spaces.{laid_known}
+use Rattle.sea_node.specs.Entries.{Values, key_order}
 use Rattle.sea_node.specs.Node.{node_bytes}
 use Rattle.sea_node.proofs.Keys.{key_order_total, same_key}
 use Rattle.sea_tree.specs.declared.fault.TreeFault.{TreeFault}
@@ -22,7 +21,7 @@ use Rattle.sea_tree.specs.Calls.{Meets, Becomes, IsWayFault, IsChangeFault, IsWh
 use Rattle.sea_tree.specs.Does.{Change, overlaid, Does, ChangesAtMost}
 use Rattle.sea_tree.specs.Changing.{Changed, changed_content, IsPlanned}
 use Rattle.sea_tree.proofs.Counting.{full_refuted}
-use Rattle.sea_tree.proofs.Doing.{Does-read, Does-agrees, Does-laid, overlaid-same, ChangesAtMost-read, ChangesAtMost-then}
+use Rattle.sea_tree.proofs.Doing.{Does-agrees, Does-laid, overlaid-same, ChangesAtMost-read, ChangesAtMost-then}
 use Rattle.sea_tree.proofs.Holding.{whole_tree, breaks_from_way}
 use Rattle.sea_tree.proofs.MendRoot.{planted}
 use Rattle.sea_tree.proofs.MendSides.{puts_one}

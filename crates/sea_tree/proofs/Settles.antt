@@ -1,5 +1,5 @@
 -- Settling a node: parts of its entries, and a neighbour that is read.
-use Rattle.std.proofs.Common.{◌≡◌, ◌⊎◌, inl, inr, ℕ, zero, suc, ◌+◌, ◌-◌, ◌<◌, ◌≤◌, Bool, List, [], ◌∷◌, ◌++◌, length, get_or, take, drop, Option, Some, None, refl, sym, ap, subst, ◌∙◌, arith, append_assoc, length-append, take-append-drop}
+use Rattle.std.proofs.Common.{◌≡◌, inl, inr, ℕ, zero, suc, ◌+◌, ◌-◌, ◌<◌, ◌≤◌, Bool, List, [], ◌∷◌, ◌++◌, length, get_or, take, drop, Option, Some, None, refl, sym, ap, subst, ◌∙◌, arith, append_assoc, length-append, take-append-drop}
 use Rattle.std.specs.List.{All, AllByRecursion}
 use Rattle.std.proofs.lemmas.List.Elements.{All-append, recursion_from_All}
 use Rattle.sea_base.specs.Field.{big_endian}
@@ -16,16 +16,16 @@ use Rattle.sea_tree.specs.declared.fault.TreeFault.{TreeFault}
 use Rattle.sea_tree.specs.declared.fault.TreeFault.TheVariants.{Space, Broken}
 use Rattle.sea_tree.specs.declared.way.Step.{Step}
 use Rattle.sea_tree.specs.declared.neighbours.Neighbours.{Neighbours as HeldNeighbours}
-use Rattle.sea_tree.specs.Tree.{Bounds, IsInPlace, IsWithin, IsAddress, child_bounds, first_key}
-use Rattle.sea_tree.specs.Breaks.{HasNode, IsBroken, Child}
+use Rattle.sea_tree.specs.Tree.{Bounds, IsInPlace, IsAddress, child_bounds, first_key}
+use Rattle.sea_tree.specs.Breaks.{IsBroken, Child}
 use Rattle.sea_tree.specs.Cut.{IsCut}
 use Rattle.sea_tree.specs.Does.{Change}
 use Rattle.sea_tree.specs.Place.{Splits, IsPlaceFault}
 use Rattle.sea_tree.specs.Mending.{IsNearPlace, IsPart}
-use Rattle.sea_tree.specs.Settled.{IsNearChild, HasChild, Neighbours, AreHalves, AreNeighbours, Joined, CutAnew, Joins, Cuts, SplitsInTwo, Settled, IsSettleFault}
+use Rattle.sea_tree.specs.Settled.{IsNearChild, HasChild, AreHalves, AreNeighbours, Joined, CutAnew, Joins, Cuts, SplitsInTwo, IsSettleFault}
 use Rattle.sea_tree.proofs.Cuts.{cut_parts}
-use Rattle.sea_tree.proofs.MendNear.{halves, IsNode-filled}
-use Rattle.sea_tree.proofs.Splits.{middle_at, next_at}
+use Rattle.sea_tree.proofs.MendNear.{halves}
+use Rattle.sea_tree.proofs.Splits.{next_at}
 use Rattle.sea_tree.proofs.Ways.{laid_same, HasNode-same, IsBroken-same}
 
 -- ---- parts of a node's entries

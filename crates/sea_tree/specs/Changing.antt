@@ -3,7 +3,7 @@ use Rattle.std.specs.Prelude.{◌≡◌, ◌≢◌, ◌⊎◌, ℕ, suc, ◌+◌
 use Rattle.std.specs.FinMap as map
 use Rattle.sea_base.specs.Field.{big_endian}
 use Rattle.sea_base.specs.Space.{Store, Seen, Agrees, laid}
-use Rattle.sea_node.specs.Entries.{Entry, Values, size}
+use Rattle.sea_node.specs.Entries.{Entry, Values}
 use Rattle.sea_node.specs.Node.{IsNode, node_bytes}
 use Rattle.sea_tree.specs.Tree.{IsNodeOf, AreApart, IsAddress, first_key}
 use Rattle.sea_tree.specs.Content.{HasContent}

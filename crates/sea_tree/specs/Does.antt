@@ -1,7 +1,7 @@
 -- What calls have done to a transaction's view, as the blocks laid over it.
 use Rattle.std.specs.Prelude.{◌≡◌, ◌⊎◌, ℕ, ◌≤◌, List, [], ◌∷◌, Bool, true, false, ◌==◌, ◌||◌, Option, Some, None, length, if◌then◌else◌}
 use Rattle.std.specs.List.{Contains}
-use Rattle.sea_base.specs.Space.{Store, Seen, Found, IsKnown, laid}
+use Rattle.sea_base.specs.Space.{Store, Seen, Found, IsKnown}
 
 -- blocks put under addresses, or nothing left there, the latest first
 abbrev pub Change : Type 0

@@ -1,5 +1,5 @@
 -- How a tree is mended from a changed leaf up to its root.
-use Rattle.std.specs.Prelude.{◌≡◌, ◌⊎◌, ℕ, suc, ◌+◌, ◌<◌, ◌≤◌, List, [], ◌∷◌, ◌++◌, map, length, Option, Some, None, if◌then◌else◌}
+use Rattle.std.specs.Prelude.{◌≡◌, ◌⊎◌, ℕ, ◌<◌, ◌≤◌, List, map, length, Option, if◌then◌else◌}
 use Rattle.std.specs.List.{All, Contains}
 use Rattle.std.specs.Ordering.{eq_by_cmp}
 use Rattle.sea_base.specs.Name.{IsName}
@@ -7,7 +7,7 @@ use Rattle.sea_base.specs.Space.{Store}
 use Rattle.sea_node.specs.Entries.{Entry, key_order, IsNotAbove, IsRising, size, edited}
 use Rattle.sea_tree.specs.declared.edit.Edit.{Edit}
 use Rattle.sea_tree.specs.declared.edit.Edit.TheVariants.{Pair, Moved}
-use Rattle.sea_tree.specs.Tree.{Bounds, root_bounds, IsWithin, first_key}
+use Rattle.sea_tree.specs.Tree.{Bounds, IsWithin, first_key}
 use Rattle.sea_tree.specs.Breaks.{HasNode}
 use Rattle.sea_tree.specs.Subtrees.{Holds, Below}
 

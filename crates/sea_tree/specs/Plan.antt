@@ -1,5 +1,5 @@
 -- What is planned to be written, as changes of a store.
-use Rattle.std.specs.Prelude.{ℕ, List, ◌∷◌, map, reverse, sum_by, Option, Some, None}
+use Rattle.std.specs.Prelude.{ℕ, List, map, reverse, sum_by, Some, None}
 use Rattle.sea_tree.specs.declared.plan.Write.{Write}
 use Rattle.sea_tree.specs.declared.plan.Write.TheVariants.{Whole, Spliced, Gone}
 use Rattle.sea_tree.specs.Does.{Change}

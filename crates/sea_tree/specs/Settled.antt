@@ -1,5 +1,5 @@
 -- What settling one node below the root plans, and what it leaves to its parent.
-use Rattle.std.specs.Prelude.{◌≡◌, ◌⊎◌, ℕ, suc, ◌+◌, ◌<◌, ◌≤◌, List, [], ◌∷◌, ◌++◌, length, Bool, Option, Some, None}
+use Rattle.std.specs.Prelude.{◌≡◌, ◌⊎◌, ℕ, ◌+◌, ◌≤◌, List, [], ◌∷◌, ◌++◌, length, Bool, Option, Some, None}
 use Rattle.sea_base.specs.Field.{big_endian}
 use Rattle.sea_base.specs.Space.{Store, Seen, OnlyRead, Agrees, laid}
 use Rattle.sea_node.specs.Entries.{Entry, size}
@@ -9,7 +9,7 @@ use Rattle.sea_tree.specs.declared.edit.Edit.TheVariants.{Pair, Moved}
 use Rattle.sea_node.specs.declared.node.Node.{Node}
 use Rattle.sea_tree.specs.declared.neighbours.Neighbours.{Neighbours as HeldNeighbours}
 use Rattle.sea_tree.specs.declared.way.Step.{Step}
-use Rattle.sea_tree.specs.Tree.{Bounds, root_bounds, IsAddress, child_bounds, first_key}
+use Rattle.sea_tree.specs.Tree.{Bounds, IsAddress, child_bounds, first_key}
 use Rattle.sea_base.specs.Faults.{IsCause}
 use Rattle.sea_tree.specs.declared.fault.TreeFault.{TreeFault}
 use Rattle.sea_tree.specs.declared.fault.TreeFault.TheVariants.{Space, Broken}

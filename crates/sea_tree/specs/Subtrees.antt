@@ -2,7 +2,7 @@
 use Rattle.std.specs.Prelude.{◌≡◌, ℕ, zero, suc, List, [], ◌∷◌, ◌++◌, Option}
 use Rattle.sea_base.specs.Space.{Store}
 use Rattle.sea_node.specs.Entries.{Entry}
-use Rattle.sea_tree.specs.Tree.{NodeAt, Bounds, IsInPlace, child_bounds, IsAddress}
+use Rattle.sea_tree.specs.Tree.{Bounds, child_bounds, IsAddress}
 use Rattle.sea_tree.specs.Breaks.{HasNode}
 
 -- below the entries of a node: for each the child with its pairs and nodes, one behind the other

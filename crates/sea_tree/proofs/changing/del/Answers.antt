@@ -1,15 +1,12 @@
-use Rattle.std.proofs.Common.{rules, ◌≡◌, ℕ, ◌+◌, ◌≤◌, List, Option, Some, None, refl, sym, ◌∙◌, ap, subst, arith}
+use Rattle.std.proofs.Common.{◌≡◌, None, sym, ◌∙◌, arith}
 use Rattle.std.proofs.lemmas.Result.{err_from_is_err_and}
-use Rattle.std.specs.FinMap as map
 use Rattle.std.specs.FinMap.Entries.{find}
-use Rattle.sea_base.specs.Space.{Store, Seen}
-use Rattle.sea_base.proofs.Spaces.{only_read-refl, agrees_before}
-use Rattle.sea_node.specs.Entries.{Values, key_order}
-use Rattle.sea_tree.specs.Calls.{Meets}
+use Rattle.sea_base.specs.Space.{Seen}
+use Rattle.sea_node.specs.Entries.{key_order}
 use Rattle.sea_tree.specs.Plan.{changes_of, count_filled}
-use Rattle.sea_tree.proofs.Doing.{Does-read, ChangesAtMost-read}
+use Rattle.sea_tree.proofs.Doing.{ChangesAtMost-read}
 use Rattle.sea_tree.proofs.Leaves.{known_find, known_empty}
-use Rattle.sea_tree.proofs.Puts.{way_fault, fault_since, of_space, Run, run_becomes, plants, nothing_changes, fewer, run_few, run_whole, run_agrees}
+use Rattle.sea_tree.proofs.Puts.{way_fault, fault_since, of_space, Run, run_becomes, nothing_changes, fewer, run_few, run_whole, run_agrees}
 use Rattle.sea_tree.proofs.changing.del.Goals as goal
 
 pub returns-in_err-way-clause-fault : goal.returns-in_err-way-clause-fault

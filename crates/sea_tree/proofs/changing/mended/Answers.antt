@@ -1,10 +1,8 @@
-use Rattle.std.proofs.Common.{rules, ◌≡◌, ℕ, ◌+◌, ◌*◌, ◌≤◌, List, [], ◌∷◌, ◌++◌, length, Option, refl, sym, ◌∙◌, ap, subst, arith, length-append}
+use Rattle.std.proofs.Common.{rules, ◌≡◌, ◌+◌, [], ◌∷◌, length, refl, ◌∙◌, ap, arith, length-append}
 use Rattle.std.proofs.lemmas.Result.{err_from_is_err_and}
 use Rattle.std.specs.Option.{option_copied}
-use Rattle.sea_tree.specs.Mending.{after_edit}
 use Rattle.sea_tree.specs.Plan.{changes_of, count_filled}
 use Rattle.sea_tree.proofs.Doing.{Does-then}
-use Rattle.sea_tree.proofs.Climbs.{Climbs}
 use Rattle.sea_tree.proofs.Mended.{begins, turns, goes_up, ends, comes_to_root, roots, settle_fault, root_fault, nothing_left}
 use Rattle.sea_tree.proofs.changing.mended.Goals as goal
 use Rattle.sea_tree.proofs.changing.mended.Goals.{in-Some+in_ok-copy-in-Some, in-None}

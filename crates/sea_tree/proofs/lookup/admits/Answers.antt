@@ -1,4 +1,4 @@
-use Rattle.std.proofs.Common.{◌≡◌, ◌≤◌, arith, sym, subst, ap, ◌∙◌}
+use Rattle.std.proofs.Common.{◌≤◌, arith, sym, subst, ◌∙◌}
 use Rattle.std.proofs.lemmas.Slice.Eq.{bytes_eq-Decides}
 use Rattle.sea_node.specs.Entries.{size}
 use Rattle.sea_node.proofs.Keys.{IsNotAbove-same}

@@ -1,9 +1,9 @@
-use Rattle.std.proofs.Common.{◌≡◌, ◌-◌, ℕ, [], None, refl, sym, ap, subst, ◌∙◌, arith}
+use Rattle.std.proofs.Common.{[], refl, ◌∙◌, arith}
 use Rattle.std.proofs.lemmas.Result.{err_from_is_err_and}
 use Rattle.sea_base.proofs.Spaces.{only_read-trans, known_later}
 use Rattle.sea_tree.specs.Tree.{root_bounds}
 use Rattle.sea_tree.specs.Place.{meant}
-use Rattle.sea_tree.specs.Lookup.{LooksDown, LooksAtLeaf}
+use Rattle.sea_tree.specs.Lookup.{LooksAtLeaf}
 use Rattle.sea_tree.proofs.WaySteps.{root_fault, comes_first}
 use Rattle.sea_tree.proofs.Lookups.{found_some, looks_further, look_fault, whole_leaf}
 use Rattle.sea_tree.proofs.lookup.look_up.Goals as goal

@@ -1,7 +1,6 @@
-use Rattle.std.proofs.Common.{rules, ◌≡◌, ℕ, List, [], ◌∷◌, ◌++◌, Option, Some, None, refl, sym, ap, subst, ◌∙◌}
+use Rattle.std.proofs.Common.{rules, ◌≡◌, ℕ, List, [], ◌∷◌, ◌++◌, Some, refl, sym, ap, subst, ◌∙◌}
 use Rattle.std.specs.Option.{unwrap_or}
-use Rattle.sea_node.specs.Entries.{Entry}
-use Rattle.sea_node.specs.Lookup.{EndsAt, Finds, Passes}
+use Rattle.sea_node.specs.Lookup.{EndsAt, Finds}
 use Rattle.sea_node.proofs.Lookups.{first_more, finds_still, finds_found, finds_next, none_met, not_above, is_above}
 use Rattle.sea_node.proofs.lookup.Passed.take.Goals as goal
 

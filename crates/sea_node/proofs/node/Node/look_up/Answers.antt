@@ -1,7 +1,7 @@
 use Rattle.std.specs.Prelude.{IfNone}
-use Rattle.std.proofs.Common.{◌≡◌, ◌-◌, ℕ, Option, Some, None, List, length, get_or, take, drop, replicate, arith, ap, sym, subst, refl, ◌∙◌}
+use Rattle.std.proofs.Common.{◌≡◌, ℕ, Option, Some, None, List, length, get_or, drop, replicate, arith, ap, sym, subst, refl, ◌∙◌}
 use Rattle.std.proofs.lemmas.Bool.{false≢true}
-use Rattle.std.proofs.lemmas.List.{take_rest, get_or-drop, get_or_past, length-drop}
+use Rattle.std.proofs.lemmas.List.{get_or_past, length-drop}
 use Rattle.sea_node.specs.Reading.{StandsAt}
 use Rattle.std.proofs.lemmas.Option.{IfSome_then}
 use Rattle.sea_node.specs.Node.{Spells}
