@@ -26,25 +26,20 @@ fn put_number(
     twin.put(rt, key, value)
 }
 
-// Checks the tree at each tenth number.
-fn check_some(rt: &impl Abort, twin: &mut Twin, number: u64) -> Result<(), TrialFault> {
-    if number % 10 == 0 {
-        twin.check(rt)?;
-    }
-    Ok(())
-}
-
-// Puts all pairs, and answers how many levels the tree came to have, one after the other.
-fn grow(rt: &impl Abort, alloc: Global, twin: &mut Twin) -> Result<u8, TrialFault> {
-    let mut levels = 0u8;
+// Puts pairs until the tree has four levels, which come one after the other, and answers how many pairs.
+fn grow(rt: &impl Abort, alloc: Global, twin: &mut Twin) -> Result<u64, TrialFault> {
+    let mut level = 0u8;
     for number in 0..PAIRS {
         put_number(rt, alloc, twin, number)?;
-        if twin.level()? == levels {
-            levels = levels.saturating_add(1);
+        twin.check(rt)?;
+        let now = twin.level()?;
+        assert!(rt; now == level || now == level.saturating_add(1));
+        level = now;
+        if level == 3 {
+            return Ok(number + 1);
         }
-        check_some(rt, twin, number)?;
     }
-    Ok(levels)
+    Ok(0)
 }
 
 // Takes all pairs out, in another order.
@@ -52,7 +47,7 @@ fn shrink(rt: &impl Abort, alloc: Global, twin: &mut Twin) -> Result<(), TrialFa
     for number in 0..PAIRS {
         let key = digits(alloc, number, 3301)?;
         twin.del(rt, &key)?;
-        check_some(rt, twin, number)?;
+        twin.check(rt)?;
     }
     Ok(())
 }
@@ -61,7 +56,7 @@ fn shrink(rt: &impl Abort, alloc: Global, twin: &mut Twin) -> Result<(), TrialFa
 fn long_pairs_make_a_tall_tree(rt: HostRuntime) -> Result<(), TrialFault> {
     let alloc = rt.alloc();
     let mut twin = Twin::new(alloc);
-    assert!(rt; grow(&rt, alloc, &mut twin)? == 4);
+    assert!(rt; grow(&rt, alloc, &mut twin)? > 1000);
     shrink(&rt, alloc, &mut twin)?;
     assert!(rt; twin.list().pairs().is_empty());
     twin.check(&rt)
