@@ -1,4 +1,4 @@
-use crate::*;
+use super::*;
 use std::env::FillError;
 use std::test::Fail;
 
@@ -40,5 +40,5 @@ fn the_name_is_no_word(rt: HostRuntime) -> Result<(), Fail> {
 // A test is no `steps`, whatever words it was started with.
 #[test]
 fn other_words_end_with_the_status_of_usage(rt: HostRuntime) {
-    assert_eq!(rt; exit_code(run(&rt)), ExitCode::from(1));
+    assert_eq!(rt; run(&rt).report(&rt), ExitCode::from(1));
 }
