@@ -42,12 +42,14 @@ fn grow(rt: &impl Abort, alloc: Global, twin: &mut Twin) -> Result<u64, TrialFau
     Ok(0)
 }
 
-// Takes all pairs out, in another order.
+// Takes all pairs out, in another order, and checks the tree at each tenth.
 fn shrink(rt: &impl Abort, alloc: Global, twin: &mut Twin) -> Result<(), TrialFault> {
     for number in 0..PAIRS {
         let key = digits(alloc, number, 3301)?;
         twin.del(rt, &key)?;
-        twin.check(rt)?;
+        if number % 10 == 0 {
+            twin.check(rt)?;
+        }
     }
     Ok(())
 }
