@@ -24,7 +24,7 @@ pub use field::{is_zero, put_bytes, put_u16, put_u32, put_u64, u16_at, u32_at, u
 pub use map_space::MapSpace;
 pub use memory::{Duplicate, NoMemory};
 pub use name::{Key, Name, NameFault, is_name};
-pub use place::{Commit, Laddr, Paddr};
+pub use place::{Commit, Laddr, PRoot, Paddr, Root, Slot, Tail};
 pub use sequence::{Addresses, Names, Nths, Pairs, Sequence};
 pub use space::{Space, SpaceFault};
 
