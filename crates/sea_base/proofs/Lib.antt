@@ -1,7 +1,10 @@
+pub mod Calling
 pub mod Digests
 pub mod Examples
 pub mod Fields
+pub mod RootFields
 pub mod Slices
 pub mod SpaceExamples
 pub mod Spaces
 pub mod Splices
+pub mod Words

@@ -1,5 +1,5 @@
 -- Parts of byte strings, and when two are the same.
-use Rattle.std.proofs.Common.{◌≡◌, Bool, true, false, ℕ, ◌+◌, ◌-◌, ◌≤◌, List, ◌++◌, length, take, drop, replicate, refl, sym, ap, ◌∙◌, arith}
+use Rattle.std.proofs.Common.{◌≡◌, Bool, true, false, ℕ, zero, suc, ◌+◌, ◌-◌, ◌≤◌, ◌<◌, List, [], ◌∷◌, ◌++◌, get_or, length, take, drop, replicate, refl, sym, ap, ◌∙◌, arith}
 use Rattle.std.specs.Prelude.{slice_range, not}
 use Rattle.std.specs.Str.{bytes_eq}
 use Rattle.std.proofs.lemmas.List.{take_at, drop_at, take-take, drop-take, drop-drop, take-append-drop, length-take-le, length-drop, length-replicate}
@@ -47,3 +47,13 @@ equal xs ys r e same = (bytes_eq-Decides xs ys).0 (told (bytes_eq xs ys) (sym e 
 -- zeros, by their length and by a number
 pub zeros_long : (xs : List ℕ) (n : ℕ) → xs ≡ replicate n 0 → xs ≡ replicate (length xs) 0
 zeros_long xs n e = e ∙ ap (λ (k : ℕ). replicate k 0) (sym (ap length e ∙ length-replicate {A = ℕ} n 0))
+
+-- zeros, index by index
+pub zeros_each : (xs : List ℕ) → ((k : ℕ) → k < length xs → get_or xs k 0 ≡ 0) → xs ≡ replicate (length xs) 0
+zeros_each [] each = refl
+zeros_each (x ∷ xs) each = λ i. each 0 (omega arith) i ∷ zeros_each xs (λ k within. each (suc k) (omega arith)) i
+
+pub each_zero : (n k : ℕ) → get_or {A = ℕ} (replicate n 0) k 0 ≡ 0
+each_zero zero k = refl
+each_zero (suc n) zero = refl
+each_zero (suc n) (suc k) = each_zero n k

@@ -1,7 +1,9 @@
 -- What reads, writes and new addresses do to a transaction, and to a store that its changes are laid over.
-use Rattle.std.proofs.Common.{◌≡◌, ◌≢◌, inl, inr, ℕ, Bool, true, false, ◌||◌, ◌==◌, List, Option, Some, None, IsSome, is_some, if◌then◌else◌, refl, sym, ap, ◌∙◌}
+use Rattle.std.proofs.Common.{◌≡◌, ◌≢◌, inl, inr, ℕ, Bool, true, false, ◌||◌, ◌==◌, List, [], ◌∷◌, Option, Some, None, IsSome, is_some, if◌then◌else◌, refl, sym, ap, ◌∙◌}
 use Rattle.std.proofs.lemmas.Bool.{cases_Bool, cases_eq, false≢true, eq-eqb, ne_eqb, cond-true, cond-false, or_left, or_right}
-use Rattle.sea_base.specs.Space.{Store, Seen, IsKnown, Agrees, laid, IsSound, OnlyRead, Writes, Gives}
+use Rattle.std.specs.Option.{option_map}
+use Rattle.sea_base.specs.declared.delta.Delta.{Delta}
+use Rattle.sea_base.specs.Space.{Store, Found, Seen, block_found, IsKnown, Agrees, laid, all_spliced, are_some, IsSound, OnlyRead, Writes, Gives}
 
 some_value : {A : Type 0} (o : Option A) → IsSome o → (x : A) × (o ≡ Some x)
 some_value None h = absurd (false≢true h)
@@ -18,13 +20,22 @@ known_later r at (inr s) =
     inr (some_is _ found.0 (r.noted at found.0 found.1))
 
 pub only_read-refl : (seen : Seen) → OnlyRead seen seen
-only_read-refl seen = record { noted = λ at found e. e; known = λ at k. refl; changed = λ at. refl; next = refl }
+only_read-refl seen = record {
+  noted = λ at found e. e;
+  known = λ at k. refl;
+  changed = λ at. refl;
+  whole = λ at. refl;
+  splices = λ at. refl;
+  next = refl;
+}
 
 pub only_read-trans : {a b c : Seen} → OnlyRead a b → OnlyRead b c → OnlyRead a c
 only_read-trans first later = record {
   noted = λ at found e. later.noted at found (first.noted at found e);
   known = λ at k. later.known at (known_later first at k) ∙ first.known at k;
   changed = λ at. later.changed at ∙ first.changed at;
+  whole = λ at. later.whole at ∙ first.whole at;
+  splices = λ at. later.splices at ∙ first.splices at;
   next = later.next ∙ first.next;
 }
 
@@ -46,6 +57,27 @@ laid-only_read {old} {new} r store at =
       | inr c ↦ laid_unchanged new store at (r.changed at ∙ c) ∙ sym (laid_unchanged old store at c)
     ]
 
+-- an address that wasn't changed was neither placed whole nor amended
+unplaced : (w s : Bool) (c : Bool) → c ≡ (w || s) → c ≡ false → (w ≡ false) × (s ≡ false)
+unplaced true s c e unchanged = absurd (false≢true (sym unchanged ∙ e))
+unplaced false s c e unchanged = (refl, sym e ∙ unchanged)
+
+none_made : (deltas : List Delta) → are_some deltas ≡ false → deltas ≡ []
+none_made [] e = refl
+none_made (delta ∷ deltas) e = absurd (false≢true (sym e))
+
+same_block : (o : Option (List ℕ)) → option_map (all_spliced []) o ≡ o
+same_block None = refl
+same_block (Some block) = refl
+
+-- so its view is what was found there
+pub view_found : (seen : Seen) → IsSound seen → (at : ℕ) (found : Found) → seen.reads at ≡ Some found → seen.changed at ≡ false → seen.view at ≡ block_found found
+view_found seen sound at found read unchanged =
+    let none = unplaced (seen.whole at) (are_some (seen.splices at)) (seen.changed at) (sound.changed at) unchanged in
+    sound.found at found read none.0
+    ∙ ap (λ (ds : List Delta). option_map (all_spliced ds) (block_found found)) (none_made (seen.splices at) none.1)
+    ∙ same_block (block_found found)
+
 -- at a known address, a store that agrees has the view laid over it
 pub laid_known : (seen : Seen) (store : Store) → IsSound seen → Agrees store seen → (at : ℕ) → IsKnown seen at → laid seen store at ≡ seen.view at
 laid_known seen store sound agrees at (inl c) = laid_changed seen store at c
@@ -53,7 +85,7 @@ laid_known seen store sound agrees at (inr s) =
     let found = some_value (seen.reads at) s in
     elim (cases_Bool (seen.changed at)) [
       | inl c ↦ laid_changed seen store at c
-      | inr c ↦ laid_unchanged seen store at c ∙ agrees at found.0 found.1 ∙ sym (sound at found.0 found.1 c)
+      | inr c ↦ laid_unchanged seen store at c ∙ agrees at found.0 found.1 ∙ sym (view_found seen sound at found.0 found.1 c)
     ]
 
 module _ {at : ℕ} {block : Option (List ℕ)} {old new : Seen} (w : Writes at block old new) where

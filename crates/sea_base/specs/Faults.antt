@@ -1,5 +1,5 @@
 -- What a fault of a space says.
-use Rattle.std.specs.Prelude.{◌≡◌, ◌⊎◌, ℕ, ◌-◌, ◌^◌, ◌<◌, Bool, false}
+use Rattle.std.specs.Prelude.{◌≡◌, ◌⊎◌, ℕ, ◌-◌, ◌^◌, ◌<◌, Bool, false, Option, Some, None}
 use Rattle.sea_base.specs.declared.space.SpaceFault.{SpaceFault}
 use Rattle.sea_base.specs.declared.space.SpaceFault.TheVariants.{NoMemory, DeviceFault, Damaged}
 
@@ -7,8 +7,10 @@ use Rattle.sea_base.specs.declared.space.SpaceFault.TheVariants.{NoMemory, Devic
 abbrev pub FaultsRose : ℕ → ℕ → Type 0
 FaultsRose before now = (before < now) ⊎ (now ≡ 2 ^ 64 - 1)
 
--- why a space may answer a fault: its count rose; or it doesn't tell its bytes
-abbrev pub IsCause : ℕ → ℕ → Bool → SpaceFault → Type 0
-IsCause before now tells NoMemory = Unit {0}
-IsCause before now tells DeviceFault = FaultsRose before now
-IsCause before now tells (Damaged block kept found) = tells ≡ false
+-- The count rose where a call ended with a device fault, and stands still else. A block is damaged only over a
+-- space that doesn't tell its bytes.
+abbrev pub IsCause : ℕ → ℕ → Bool → Option SpaceFault → Type 0
+IsCause before now tells None = now ≡ before
+IsCause before now tells (Some NoMemory) = now ≡ before
+IsCause before now tells (Some DeviceFault) = FaultsRose before now
+IsCause before now tells (Some (Damaged block kept found)) = (now ≡ before) × (tells ≡ false)

@@ -1,8 +1,11 @@
+pub mod Calls
 pub mod Digest
 pub mod Failures
 pub mod Faults
 pub mod Field
+pub mod Ghosts
 pub mod MapSpace
 pub mod Name
+pub mod RootFields
 pub mod Space
 pub mod Splice

@@ -2,6 +2,7 @@
 //! and the view that a transaction has of a store.
 #![tactic(auto)]
 
+mod append;
 mod block;
 mod data;
 mod delta;
@@ -12,9 +13,11 @@ mod map_space;
 mod memory;
 mod name;
 mod place;
+mod root_fields;
 mod sequence;
 mod space;
 
+pub use append::{push_u16, push_u32, push_u64};
 pub use block::{BLOCK_BYTES, Block};
 pub use data::Data;
 pub use delta::Delta;
@@ -25,8 +28,6 @@ pub use map_space::MapSpace;
 pub use memory::{Duplicate, NoMemory};
 pub use name::{Key, Name, NameFault, is_name};
 pub use place::{Commit, Laddr, PRoot, Paddr, Root, Slot, Tail};
+pub use root_fields::{ROOT_BYTES, is_root, is_tail, push_root_fields, root_fields_at};
 pub use sequence::{Addresses, Names, Nths, Pairs, Sequence};
 pub use space::{Space, SpaceFault};
-
-#[cfg(test)]
-mod tests;

@@ -33,3 +33,20 @@ impl Duplicate for u64 {
         Ok(*self)
     }
 }
+
+impl<A: Duplicate + Drop, B: Duplicate + Drop> Duplicate for (A, B) {
+    fn copy(&self) -> Result<(A, B), NoMemory> {
+        let first = self.0.copy()?;
+        let second = self.1.copy()?;
+        Ok((first, second))
+    }
+}
+
+impl<T: Duplicate + Drop> Duplicate for Option<T> {
+    fn copy(&self) -> Result<Option<T>, NoMemory> {
+        match self {
+            Some(value) => Ok(Some(value.copy()?)),
+            None => Ok(None),
+        }
+    }
+}

@@ -1,9 +1,10 @@
 //! The view that one transaction has of a store of blocks under logical addresses.
-ghost use Rattle.std.specs.Prelude.{◌≡◌, ◌⊎◌, ℕ, ◌+◌, ◌*◌, ◌^◌, ◌<◌, ◌≤◌, Bool, IsTrue, Option, Some, None, OnOk, OnErr, IfOk, IfErr, List};
+ghost use Rattle.std.specs.Prelude.{◌≡◌, ℕ, ◌+◌, ◌*◌, ◌^◌, ◌<◌, ◌≤◌, Bool, IsTrue, Some, None, OnOk, OnErr, IfOk, IfErr};
 ghost use Rattle.std.specs.Option.{option_map};
-ghost use Rattle.sea_base.specs.Space.{Seen, IsKnown, IsSound, OnlyRead, ReadsOne, Writes, Gives};
+ghost use Rattle.std.specs.Result.{result_err};
+ghost use Rattle.sea_base.specs.Calls.{Continues, IsFrame};
+ghost use Rattle.sea_base.specs.Space.{Seen, Found, IsKnown, IsSound, IsSame, ReadsAtMost, Places, Amends, Gives, ShowsCurrent};
 ghost use Rattle.sea_base.specs.Splice.{IsSplice, spliced};
-ghost use Rattle.sea_base.specs.Faults.{IsCause};
 
 use crate::{Block, Delta, Laddr, NoMemory, Paddr, Sum};
 use thiserror::Error;
@@ -45,6 +46,9 @@ pub trait Space {
     /// What was read and changed.
     ghost seen: { Self → Seen };
 
+    /// The version and the block at each address below the transaction, as the store has them now.
+    ghost current: { Self → ℕ → Found };
+
     /// How many faults there were. The count never falls, and stands still at 2^64 - 1.
     ghost faults: { Self → ℕ };
 
@@ -54,53 +58,48 @@ pub trait Space {
     /// Whether a transaction is in it.
     ghost ready: { Self → Bool };
 
+    /// What the space is beside this transaction stays from one state to another.
+    ghost keeps: { Self → Self → Type 0 };
+
     /// The block at an address, or nothing. The address is noted among the reads, unless the
-    /// transaction read or changed it before.
+    /// transaction read or changed it before. A call that fails notes that address at most.
     fn get(&mut self, at: Laddr) -> Result<Option<Block>, SpaceFault>
         requires { IsTrue (ready self.old) }
         ensures answer { IfOk result (λ found. found ≡ (seen self.new).view at.0) }
-        ensures noted { OnOk result (ReadsOne at.0 (seen self.old) (seen self.new)) }
-        ensures told { IsTrue (tells self.old) → (q : ℕ) → (seen self.new).view q ≡ (seen self.old).view q }
-        ensures reads { OnlyRead (seen self.old) (seen self.new) }
-        ensures cause { IfErr result (IsCause (faults self.old) (faults self.new) (tells self.old)) }
-        ensures later { faults self.old ≤ faults self.new }
-        ensures tells { tells self.new ≡ tells self.old }
-        ensures ready { IsTrue (ready self.new) };
+        ensures known { OnOk result (IsKnown (seen self.new) at.0) }
+        ensures reads { ReadsAtMost at.0 (seen self.old) (seen self.new) }
+        ensures call { Continues seen current faults tells ready keeps self.old self.new (result_err result) };
 
-    /// Places a whole block.
+    /// Places a whole block. A call that fails changes nothing.
     fn put(&mut self, at: Laddr, block: Block) -> Result<(), SpaceFault>
         requires { IsTrue (ready self.old) }
-        ensures placed { OnOk result (Writes at.0 (Some block) (seen self.old) (seen self.new)) }
+        ensures placed { OnOk result (Places at.0 (Some block) (seen self.old) (seen self.new)) }
         ensures memory { IfErr result (λ fault. fault ≡ SpaceFault.NoMemory) }
-        ensures next { (seen self.new).next ≡ (seen self.old).next }
-        ensures later { faults self.old ≤ faults self.new }
-        ensures tells { tells self.new ≡ tells self.old }
-        ensures ready { IsTrue (ready self.new) };
+        ensures same { OnErr result (IsSame (seen self.old) (seen self.new)) }
+        ensures call { Continues seen current faults tells ready keeps self.old self.new (result_err result) };
 
-    /// Places the block that a splice makes of the one that stands there.
+    /// Places the block that a splice makes of the one that stands there. A call that fails changes
+    /// nothing.
     fn amend(&mut self, at: Laddr, delta: Delta, block: Block) -> Result<(), SpaceFault>
         requires ready { IsTrue (ready self.old) }
         requires known { IsKnown (seen self.old) at.0 }
         requires fits { IsSplice delta.cut delta.gone delta.put }
         requires splice { option_map (spliced delta.cut delta.gone delta.put) ((seen self.old).view at.0) ≡ Some block }
-        ensures placed { OnOk result (Writes at.0 (Some block) (seen self.old) (seen self.new)) }
+        ensures amended { OnOk result (Amends at.0 delta block (seen self.old) (seen self.new)) }
         ensures memory { IfErr result (λ fault. fault ≡ SpaceFault.NoMemory) }
-        ensures next { (seen self.new).next ≡ (seen self.old).next }
-        ensures later { faults self.old ≤ faults self.new }
-        ensures tells { tells self.new ≡ tells self.old }
-        ensures ready { IsTrue (ready self.new) };
+        ensures same { OnErr result (IsSame (seen self.old) (seen self.new)) }
+        ensures call { Continues seen current faults tells ready keeps self.old self.new (result_err result) };
 
-    /// Leaves nothing at an address.
+    /// Leaves nothing at an address. A call that fails changes nothing.
     fn drop_at(&mut self, at: Laddr) -> Result<(), SpaceFault>
         requires { IsTrue (ready self.old) }
-        ensures gone { OnOk result (Writes at.0 None (seen self.old) (seen self.new)) }
+        ensures gone { OnOk result (Places at.0 None (seen self.old) (seen self.new)) }
         ensures memory { IfErr result (λ fault. fault ≡ SpaceFault.NoMemory) }
-        ensures next { (seen self.new).next ≡ (seen self.old).next }
-        ensures later { faults self.old ≤ faults self.new }
-        ensures tells { tells self.new ≡ tells self.old }
-        ensures ready { IsTrue (ready self.new) };
+        ensures same { OnErr result (IsSame (seen self.old) (seen self.new)) }
+        ensures call { Continues seen current faults tells ready keeps self.old self.new (result_err result) };
 
-    /// The next address, which is the first of `count` that no call has given before.
+    /// The next address, which is the first of `count` that no call has given before. A call that
+    /// fails gives none.
     fn alloc(&mut self, count: u64) -> Result<Laddr, SpaceFault>
         requires ready { IsTrue (ready self.old) }
         requires count { (1 ≤ count) × (count ≤ 4098) }
@@ -108,11 +107,15 @@ pub trait Space {
         ensures first { IfOk result (λ first. first.0 ≡ (seen self.old).next) }
         ensures given { OnOk result (Gives count (seen self.old) (seen self.new)) }
         ensures memory { IfErr result (λ fault. fault ≡ SpaceFault.NoMemory) }
-        ensures next { OnErr result ((seen self.new).next ≡ (seen self.old).next) }
-        ensures later { faults self.old ≤ faults self.new }
-        ensures tells { tells self.new ≡ tells self.old }
-        ensures ready { IsTrue (ready self.new) };
+        ensures same { OnErr result (IsSame (seen self.old) (seen self.new)) }
+        ensures call { Continues seen current faults tells ready keeps self.old self.new (result_err result) };
 
-    /// What was found at an address that wasn't changed is what stands there.
+    /// What holds of each transaction.
     ghost sound: { (space : Self) → IsSound (seen space) };
+
+    /// States that keep one another share what is current.
+    ghost frame: { IsFrame current keeps };
+
+    /// Where a space tells its bytes, an address that the transaction doesn't know shows what is current.
+    ghost shows: { (space : Self) → IsTrue (tells space) → ShowsCurrent (current space) (seen space) };
 }

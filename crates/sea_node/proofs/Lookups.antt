@@ -1,15 +1,15 @@
 -- What the entries of a node tell of a key, taken one after the other.
-use Rattle.std.proofs.Common.{◌≡◌, ◌≢◌, inl, inr, ℕ, ◌≤◌, List, [], ◌∷◌, ◌++◌, length, Option, Some, None, true, false, refl, sym, ap, subst, ◌∙◌, arith, append_assoc}
+use Rattle.std.proofs.Common.{◌≡◌, ◌≢◌, ℕ, ◌≤◌, List, [], ◌∷◌, ◌++◌, length, drop, ◌+◌, Option, Some, None, true, false, refl, sym, ap, subst, ◌∙◌, arith, append_assoc, length-append, length-drop}
 use Rattle.std.specs.List.{AllByRecursion}
-use Rattle.std.specs.Option.{is_some, unwrap_or}
-use Rattle.std.specs.Ordering.{is_le}
-use Rattle.std.specs.declared.cmp.Ordering.{Ordering}
-use Rattle.std.specs.declared.cmp.Ordering.TheVariants.{Less, Equal, Greater}
+use Rattle.std.specs.Option.{is_some, option_or}
 use Rattle.std.proofs.lemmas.Bool.{false≢true, true≢false}
+use Rattle.sea_node.specs.Entries.{Entry, IsBelow, IsNotAbove, IsRising, entry_bytes, entry_size, size}
+use Rattle.sea_node.specs.declared.reading.Span.{Span}
 use Rattle.sea_node.specs.declared.lookup.Passed.{Passed}
-use Rattle.sea_node.specs.Entries.{Entry, IsBelow, IsNotAbove, key_order, IsRising}
-use Rattle.sea_node.specs.Lookup.{front_key, EndsAt, AreAbove, Finds, Passes, IsBehind, IsEnough}
-use Rattle.sea_node.proofs.Keys.{not_above_or_below, IsBelow-trans, not_below_itself, IsBelowAll, AreBelow, IsBelowAll-append, IsRising-one, IsRising-head, IsRising-tail, IsRising-append, IsRising-split}
+use Rattle.sea_node.specs.Reading.{IsSpan, SpansAt, StandsAt, entry_in}
+use Rattle.sea_node.specs.Lookup.{front_key, EndsAt, AreAbove, Finds, IsBehind, IsSpanIf, HasSpans, keyed}
+use Rattle.sea_node.proofs.Nodes.{size-append, size-one, length-entry_bytes}
+use Rattle.sea_node.proofs.Keys.{IsBelow-trans, not_below_itself, IsBelowAll, AreBelow, IsBelowAll-append, IsRising-one, IsRising-head, IsRising-tail, IsRising-append, IsRising-split}
 
 all_behind : (P : Entry → Type 0) (before rest : List Entry) → AllByRecursion P (before ++ rest) → AllByRecursion P rest
 all_behind P [] rest all = all
@@ -37,9 +37,43 @@ behind_last es e (Some last) (before, value, split) rising =
     (all_behind (λ (d : Entry). IsBelowAll d.0 (e ∷ [])) before ((last, value) ∷ []) below).0.0
 
 -- the first key, where one entry more comes
-pub first_more : (es : List Entry) (e : Entry) (first : Option (List ℕ)) → first ≡ front_key es → Some (unwrap_or first e.0) ≡ front_key (es ++ e ∷ [])
-first_more [] e first is = ap (λ (f : Option (List ℕ)). Some (unwrap_or f e.0)) is
-first_more (x ∷ es) e first is = ap (λ (f : Option (List ℕ)). Some (unwrap_or f e.0)) is
+pub first_or : (bytes : List ℕ) (es : List Entry) (first : Option Span) (span : Span) → keyed bytes first ≡ front_key es → keyed bytes (option_or first (Some span)) ≡ front_key (es ++ entry_in bytes span ∷ [])
+first_or bytes [] None span is = refl
+first_or bytes [] (Some start) span is = absurd (cc)
+first_or bytes (x ∷ es) None span is = absurd (cc)
+first_or bytes (x ∷ es) (Some start) span is = is
+
+pub span_or : (bytes : List ℕ) (first : Option Span) (span : Span) → IsSpanIf bytes first → IsSpan bytes span → IsSpanIf bytes (option_or first (Some span))
+span_or bytes None span first here = here
+span_or bytes (Some start) span first here = first
+
+pub some_keyed : (bytes : List ℕ) (span : Option Span) → is_some (keyed bytes span) ≡ is_some span
+some_keyed bytes None = refl
+some_keyed bytes (Some span) = refl
+
+pub none_keyed : (bytes : List ℕ) (span : Option Span) → is_some span ≡ false → keyed bytes span ≡ None
+none_keyed bytes None none = refl
+none_keyed bytes (Some span) none = absurd (true≢false none)
+
+-- where an entry ends, and one entry more
+pub entry_ends : (bytes : List ℕ) (e : Entry) (at end : ℕ) → length bytes ≡ 4096 → at ≤ 4096 → StandsAt bytes at e end → end ≡ at + entry_size e
+entry_ends bytes e at end len within stands =
+    omega (arith, ap length stands.1.1, length-append (entry_bytes e) (drop end bytes), length-entry_bytes e, length-drop at bytes, length-drop end bytes)
+
+pub ends_more : (bytes : List ℕ) (es : List Entry) (e : Entry) (at end : ℕ) → length bytes ≡ 4096 → at ≤ 4096 → at ≡ 32 + size es → StandsAt bytes at e end → end ≡ 32 + size (es ++ e ∷ [])
+ends_more bytes es e at end len within is stands = omega (arith, entry_ends bytes e at end len within stands, size-append es (e ∷ []), size-one e)
+
+-- where entries stand, with one entry more
+pub spans_more : (bytes : List ℕ) (passed : Passed) (span : Span) (found next : Option Span) → length bytes ≡ 4096 → HasSpans bytes passed → SpansAt bytes passed.end span → IsSpanIf bytes found → IsSpanIf bytes next
+    → HasSpans bytes (record { end = span.end; first = option_or passed.first (Some span); last = Some span; found = found; next = next })
+spans_more bytes passed span found next len spans stands found_is next_is = record {
+  front = omega (arith, entry_ends bytes (entry_in bytes span) passed.end span.end len spans.within stands.1, spans.front);
+  within = stands.0.within;
+  first_is = span_or bytes passed.first span spans.first_is stands.0;
+  last_is = stands.0;
+  found_is = found_is;
+  next_is = next_is;
+}
 
 no_first : (es : List Entry) → None ≡ front_key es → es ≡ []
 no_first [] none = refl
@@ -73,27 +107,12 @@ pub finds_still : (key : List ℕ) (es : List Entry) (e : Entry) (found : Option
 finds_still key es e found None is rising finds = absurd (false≢true is)
 finds_still key es e found (Some next) is rising finds = finds_kept key es e found next rising finds
 
-pub none_met : (next : Option (List ℕ)) → is_some next ≡ false → next ≡ None
-none_met None is = refl
-none_met (Some next) is = absurd (true≢false is)
-
-pub not_above : (a b : List ℕ) → is_le (key_order a b) ≡ true → IsNotAbove a b
-not_above a b le above = false≢true (sym (ap is_le above) ∙ le)
-
-pub is_above : (a b : List ℕ) → is_le (key_order a b) ≡ false → IsBelow b a
-is_above a b le = elim (not_above_or_below a b) [ inl not ↦ absurd (by (key_order a b) refl not le) | inr above ↦ above ]
-  where
-    by : (o : Ordering) → key_order a b ≡ o → IsNotAbove a b → is_le o ≡ false → ⊥
-    by Less e not le = true≢false le
-    by Equal e not le = true≢false le
-    by Greater e not le = not e
-
 -- ---- what entries for a node tell
 
-pub not_none : (key : List ℕ) (es : List Entry) (level : ℕ) (passed : Passed) → Passes key es passed → IsEnough level es → (passed.first ≡ None → ⊥) × (passed.last ≡ None → ⊥)
-not_none key es level passed passes enough = (
-  (λ none. let empty = no_first es (sym none ∙ passes.first_is) in absurd (omega (arith, enough.0, ap length empty))),
-  (λ none. let empty = subst (EndsAt es) none passes.last_is in absurd (omega (arith, enough.0, ap length empty))),
+pub not_none : (es : List Entry) → 1 ≤ length es → (None ≡ front_key es → ⊥) × (EndsAt es None → ⊥)
+not_none es some = (
+  (λ none. let empty = no_first es none in absurd (omega (arith, some, ap length empty))),
+  (λ empty. absurd (omega (arith, some, ap length empty))),
 )
 
 -- the first key is the last of one entry alone

@@ -1,7 +1,8 @@
 -- What the parts of a node that are read stand for.
-use Rattle.std.specs.Prelude.{◌≡◌, ℕ, ◌-◌, ◌≤◌, List, [], ◌∷◌, ◌++◌, length, drop, replicate, codes}
+use Rattle.std.specs.Prelude.{◌≡◌, ℕ, ◌-◌, ◌≤◌, slice_range, List, [], ◌∷◌, ◌++◌, length, drop, replicate, codes}
 use Rattle.std.specs.List.{AllByRecursion}
 use Rattle.sea_base.specs.Name.{IsName}
+use Rattle.sea_node.specs.declared.reading.Span.{Span}
 use Rattle.sea_node.specs.Entries.{Entry, size, entry_bytes, entries_bytes}
 
 -- what may be an entry, at some level
@@ -29,6 +30,24 @@ BeginsWithNoEntry bytes = (entry : Entry) (rest : List ℕ) → BeginsWithEntry 
 -- the bytes from a place on are this entry's, up to another place in the block
 abbrev pub StandsAt : List ℕ → ℕ → Entry → ℕ → Type 0
 StandsAt bytes at entry end = (end ≤ 4096) × BeginsWithEntry (drop at bytes) entry (drop end bytes)
+
+-- the key and the entry whose parts stand where a span says
+abbrev pub key_in : List ℕ → Span → List ℕ
+key_in bytes span = slice_range bytes span.key_at span.value_at
+
+abbrev pub entry_in : List ℕ → Span → Entry
+entry_in bytes span = (key_in bytes span, slice_range bytes span.value_at span.end)
+
+-- an entry stands where a span says
+pub record IsSpan (bytes : List ℕ) (span : Span) : Type 0 where
+  pub key_first : span.key_at ≤ span.value_at
+  pub value_then : span.value_at ≤ span.end
+  pub within : span.end ≤ 4096
+  pub entry : IsEntry (entry_in bytes span)
+
+-- the entry at a place stands where a span says
+abbrev pub SpansAt : List ℕ → ℕ → Span → Type 0
+SpansAt bytes at span = IsSpan bytes span × StandsAt bytes at (entry_in bytes span) span.end
 
 -- the bytes are those of these entries, and zeros
 abbrev pub AreEntries : List ℕ → List Entry → Type 0

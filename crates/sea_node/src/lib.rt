@@ -5,10 +5,8 @@ mod edit;
 mod entry;
 mod lookup;
 mod node;
+mod order;
 mod reading;
 
 pub use lookup::Lookup;
 pub use node::Node;
-
-#[cfg(test)]
-mod tests;

@@ -1,13 +1,15 @@
-//! A key looked up in a node, with no list of the node's entries.
-ghost use Rattle.std.specs.Prelude.{◌≡◌, ℕ, ◌≤◌, ◌↔◌, [], ◌∷◌, ◌++◌, List, IfOk, IfSome, IfNone, OnOk, IsTrue, length};
-ghost use Rattle.sea_node.specs.Entries.{Entry, IsRising, size};
+//! A key looked up in a node in place, with no list of the node's entries.
+ghost use Rattle.std.specs.Prelude.{◌≡◌, ℕ, ◌≤◌, ◌↔◌, [], ◌∷◌, ◌++◌, List, IfOk, IfSome, IfNone, IsTrue, length};
+ghost use Rattle.sea_node.specs.Entries.{Entry, IsRising};
 ghost use Rattle.sea_node.specs.Node.{Spells};
-ghost use Rattle.sea_node.specs.Lookup.{Tells, Passes, IsBehind, IsEnough};
+ghost use Rattle.sea_node.specs.Reading.{BeginsAtLevel, SpansAt, IsSpan, key_in, entry_in};
+ghost use Rattle.sea_node.specs.Lookup.{Tells, Passes, HasSpans, IsSpanIf, IsRead, IsBehind, IsEnough, keyed, entered};
 
 use crate::Node;
 use crate::node::FRONT_BYTES;
-use crate::reading::{ADDRESS_BYTES, read_entry, read_level};
-use sea_base::{BLOCK_BYTES, Block, Data, Duplicate, Key, NoMemory, is_zero};
+use crate::order::comes_before;
+use crate::reading::{ADDRESS_BYTES, Span, read_level, share_entry, share_key, span_at};
+use sea_base::{BLOCK_BYTES, Block, Data, Key, NoMemory, is_zero};
 
 /// What a node tells of a key. Its keys and its value share the bytes of the block.
 #[derive(Debug, Drop)]
@@ -26,13 +28,17 @@ pub struct Lookup {
     pub next: Option<Key>,
 }
 
-// What the entries so far tell of a key.
-#[derive(Drop)]
+// Where the entries of a block stand, of those so far, that tell of a key.
+#[derive(Clone, Copy)]
 struct Passed {
-    first: Option<Key>,
-    last: Option<Key>,
-    found: Option<(Key, Data)>,
-    next: Option<Key>,
+    // Where the entries so far end.
+    end: usize,
+    first: Option<Span>,
+    last: Option<Span>,
+    // The last entry whose key is not above the key.
+    found: Option<Span>,
+    // The first entry whose key is above the key.
+    next: Option<Span>,
 }
 
 impl Node {
@@ -45,32 +51,21 @@ impl Node {
         let Some(level) = read_level(block) else {
             return Ok(None);
         };
-        let bytes = block.bytes();
-        let mut passed = Passed::none();
-        let mut at = FRONT_BYTES;
-        while at < BLOCK_BYTES && bytes[at] != 0 {
-            let Some((entry, end)) = read_entry(block, at)? else {
-                return Ok(None);
-            };
-            if !passed.admits(level, &entry) {
-                return Ok(None);
-            }
-            passed.take(entry, key)?;
-            at = end;
-        }
-        if !is_zero(&bytes[at..]) {
+        let Some(passed) = Passed::through(block.bytes(), level, key.bytes()) else {
             return Ok(None);
-        }
-        Ok(passed.told(level, at - FRONT_BYTES))
+        };
+        passed.told(block, level)
     }
 }
 
 impl Passed {
     // What no entries tell.
     fn none() -> Passed
-        ensures { (key : List ℕ) → Passes key [] result }
+        ensures none { (bytes key : List ℕ) → Passes bytes key [] result }
+        ensures spans { (bytes : List ℕ) → HasSpans bytes result }
     {
         Passed {
+            end: FRONT_BYTES,
             first: None,
             last: None,
             found: None,
@@ -78,65 +73,123 @@ impl Passed {
         }
     }
 
-    // Whether an entry may stand behind those so far, in a node of a level.
-    fn admits(&self, level: u32, entry: &(Key, Data)) -> bool
-        ensures { IsTrue result ↔ (IsBehind self.now.last entry.now.0 × (1 ≤ level → length entry.now.1 ≡ 8)) }
+    // What all entries of a block tell, if they may stand in a node of a level.
+    fn through(bytes: &[u8], level: u32, key: &[u8]) -> Option<Passed>
+        requires block { length bytes.now ≡ 4096 }
+        requires level { BeginsAtLevel bytes.now level }
+        ensures some { IfSome result (λ passed. (entries : List Entry)
+            × IsRead bytes.now level entries × Passes bytes.now key.now entries passed) }
+        ensures spans { IfSome result (HasSpans bytes.now) }
+        ensures none { IfNone result ((level : ℕ) (entries : List Entry) → Spells bytes.now level entries → ⊥) }
     {
-        if level > 0 && entry.1.len() != ADDRESS_BYTES {
+        let mut passed = Passed::none();
+        'entries: while passed.end < BLOCK_BYTES && bytes[passed.end] != 0 {
+            let Some(entry) = span_at(bytes, passed.end) else {
+                return None;
+            };
+            if !passed.admits(bytes, level, entry) {
+                return None;
+            }
+            passed.take(bytes, entry, key);
+        }
+        if !is_zero(&bytes[passed.end..]) {
+            return None;
+        }
+        Some(passed)
+    }
+
+    // Whether an entry may stand behind those so far, in a node of a level.
+    fn admits(&self, bytes: &[u8], level: u32, entry: Span) -> bool
+        requires block { length bytes.now ≡ 4096 }
+        requires entry { IsSpan bytes.now entry }
+        requires spans { HasSpans bytes.now self.now }
+        ensures { IsTrue result ↔ (IsBehind (keyed bytes.now self.now.last) (key_in bytes.now entry)
+            × (1 ≤ level → length (entry_in bytes.now entry).1 ≡ 8)) }
+    {
+        if level > 0 && entry.end - entry.value_at != ADDRESS_BYTES {
             return false;
         }
-        match &self.last {
-            Some(last) => *last < entry.0,
+        match self.last {
+            Some(last) => comes_before(
+                &bytes[last.key_at..last.value_at],
+                &bytes[entry.key_at..entry.value_at],
+            ),
             None => true,
         }
     }
 
     // Takes the entry behind those so far.
-    fn take(&mut self, entry: (Key, Data), key: &Key) -> Result<(), NoMemory>
-        ensures { OnOk result ((entries : List Entry) → IsRising (entries ++ entry ∷ [])
-            → Passes key.now entries self.old → Passes key.now (entries ++ entry ∷ []) self.new) }
+    fn take(&mut self, bytes: &[u8], entry: Span, key: &[u8])
+        requires block { length bytes.now ≡ 4096 }
+        requires entry { SpansAt bytes.now self.old.end entry }
+        requires spans { HasSpans bytes.now self.old }
+        ensures takes { (entries : List Entry) → IsRising (entries ++ entry_in bytes.now entry ∷ [])
+            → Passes bytes.now key.now entries self.old → Passes bytes.now key.now (entries ++ entry_in bytes.now entry ∷ []) self.new }
+        ensures spans { HasSpans bytes.now self.new }
+        ensures end { self.new.end ≡ entry.end }
     {
-        let (at, value) = entry;
-        self.first = Some(self.first.as_ref().unwrap_or(&at).copy()?);
-        self.last = Some(at.copy()?);
+        self.end = entry.end;
+        self.first = self.first.or(Some(entry));
+        self.last = Some(entry);
         if self.next.is_some() {
-            return Ok(());
+            return;
         }
-        if at <= *key {
-            self.found = Some((at, value));
+        if comes_before(key, &bytes[entry.key_at..entry.value_at]) {
+            self.next = Some(entry);
         } else {
-            self.next = Some(at);
+            self.found = Some(entry);
         }
-        Ok(())
     }
 
     // What a node of a level with these entries tells, if they are enough for one.
-    fn told(self, level: u32, taken: usize) -> Option<Lookup>
-        ensures some { IfSome result (λ lookup. (key : List ℕ) (entries : List Entry)
-            → IsRising entries → Passes key entries self → taken ≡ size entries
-            → (lookup.level ≡ level) × IsEnough level entries × Tells key entries lookup) }
-        ensures none { IfNone result ((key : List ℕ) (entries : List Entry)
-            → IsRising entries → Passes key entries self → IsEnough level entries → ⊥) }
+    fn told(self, block: &Block, level: u32) -> Result<Option<Lookup>, NoMemory>
+        requires { HasSpans block.now self }
+        ensures some { IfOk result (λ found. IfSome found (λ lookup. (key : List ℕ) (entries : List Entry)
+            → IsRising entries → Passes block.now key entries self
+            → (lookup.level ≡ level) × IsEnough level entries × Tells key entries lookup)) }
+        ensures none { IfOk result (λ found. IfNone found ((key : List ℕ) (entries : List Entry)
+            → IsRising entries → Passes block.now key entries self → IsEnough level entries → ⊥)) }
     {
-        let Passed {
-            first,
-            last,
-            found,
-            next,
-        } = self;
-        let first = first?;
-        let last = last?;
+        let Some(start) = self.first else {
+            return Ok(None);
+        };
+        let Some(end) = self.last else {
+            return Ok(None);
+        };
+        let bytes = block.bytes();
         // The only entry of a node is its first and its last.
-        if level > 0 && first == last {
-            return None;
+        if level > 0 && &bytes[start.key_at..start.value_at] == &bytes[end.key_at..end.value_at] {
+            return Ok(None);
         }
-        Some(Lookup {
+        Ok(Some(Lookup {
             level,
-            size: taken,
-            first,
-            last,
-            found,
-            next,
-        })
+            size: self.end - FRONT_BYTES,
+            first: share_key(block, start)?,
+            last: share_key(block, end)?,
+            found: share_found(block, self.found)?,
+            next: share_next(block, self.next)?,
+        }))
+    }
+}
+
+// The entry where a span says, if there is one.
+fn share_found(block: &Block, found: Option<Span>) -> Result<Option<(Key, Data)>, NoMemory>
+    requires { IsSpanIf block.now found }
+    ensures { IfOk result (λ entry. entry ≡ entered block.now found) }
+{
+    match found {
+        Some(span) => Ok(Some(share_entry(block, span)?)),
+        None => Ok(None),
+    }
+}
+
+// The key where a span says, if there is one.
+fn share_next(block: &Block, next: Option<Span>) -> Result<Option<Key>, NoMemory>
+    requires { IsSpanIf block.now next }
+    ensures { IfOk result (λ key. key ≡ keyed block.now next) }
+{
+    match next {
+        Some(span) => Ok(Some(share_key(block, span)?)),
+        None => Ok(None),
     }
 }

@@ -3,10 +3,11 @@ ghost use Rattle.std.specs.Prelude.{◌≡◌, ◌+◌, ◌<◌, ◌≤◌, ◌�
 ghost use Rattle.std.specs.List.{AllByRecursion};
 ghost use Rattle.sea_node.specs.Entries.{IsRising, size};
 ghost use Rattle.sea_node.specs.Node.{IsNode};
-ghost use Rattle.sea_node.specs.Reading.{IsEntry, BeginsAtLevel, BeginsAtNoLevel, BeginsWithNoEntry, StandsAt, AreEntries, AreNoEntries};
+ghost use Rattle.sea_node.specs.Reading.{IsEntry, BeginsAtLevel, BeginsAtNoLevel, BeginsWithNoEntry, StandsAt, AreEntries, AreNoEntries, IsSpan, SpansAt, key_in, entry_in};
 
 use crate::node::{FRONT_BYTES, MAGIC};
-use sea_base::{BLOCK_BYTES, Block, Data, Key, NoMemory, Pairs, is_zero, u16_at};
+use crate::order::comes_before;
+use sea_base::{BLOCK_BYTES, Block, Data, Key, NoMemory, Pairs, is_name, is_zero, u16_at};
 use std::alloc::Global;
 
 const LEVEL_AT: usize = 4;
@@ -54,27 +55,69 @@ pub fn read_entries(alloc: Global, block: &Block) -> Result<Option<Pairs>, NoMem
     Ok(Some(entries))
 }
 
+/// Where the parts of an entry stand in a block: the key up to the value, and the value up to the end.
+#[derive(Clone, Copy, Debug)]
+pub struct Span {
+    /// Where the key begins.
+    pub key_at: usize,
+    /// Where the value begins.
+    pub value_at: usize,
+    /// Where the entry ends.
+    pub end: usize,
+}
+
+/// Where the parts of the entry that stands at a place are.
+pub fn span_at(bytes: &[u8], at: usize) -> Option<Span>
+    requires block { length bytes.now ≡ 4096 }
+    requires within { at < 4096 }
+    ensures { MatchOption result (BeginsWithNoEntry (drop at bytes.now)) (SpansAt bytes.now at) }
+{
+    let key_at = at + 3;
+    if key_at > BLOCK_BYTES {
+        return None;
+    }
+    let value_len = u16_at(bytes, at + 1) as usize;
+    let value_at = key_at + bytes[at] as usize;
+    let end = value_at + value_len;
+    if end > BLOCK_BYTES || value_len > VALUE_BYTES || !is_name(&bytes[key_at..value_at]) {
+        return None;
+    }
+    Some(Span {
+        key_at,
+        value_at,
+        end,
+    })
+}
+
 /// The entry that stands at a place, and where it ends.
 pub fn read_entry(block: &Block, at: usize) -> Result<Option<((Key, Data), usize)>, NoMemory>
     requires { at < 4096 }
     ensures { IfOk result (λ found. MatchOption found (BeginsWithNoEntry (drop at block.now)) (λ x. StandsAt block.now at x.0 x.1)) }
 {
-    let bytes = block.bytes();
-    let key_at = at + 3;
-    if key_at > BLOCK_BYTES {
-        return Ok(None);
-    }
-    let value_len = u16_at(bytes, at + 1) as usize;
-    let value_at = key_at + bytes[at] as usize;
-    let end = value_at + value_len;
-    if end > BLOCK_BYTES || value_len > VALUE_BYTES {
-        return Ok(None);
-    }
-    let Some(key) = Key::from_data(block.part(key_at, value_at)?) else {
+    let Some(span) = span_at(block.bytes(), at) else {
         return Ok(None);
     };
-    let value = block.part(value_at, end)?;
-    Ok(Some(((key, value), end)))
+    let entry = share_entry(block, span)?;
+    Ok(Some((entry, span.end)))
+}
+
+/// The key and the value where a span says, which share the bytes of the block.
+pub fn share_entry(block: &Block, span: Span) -> Result<(Key, Data), NoMemory>
+    requires { IsSpan block.now span }
+    ensures { IfOk result (λ entry. entry ≡ entry_in block.now span) }
+{
+    let key = share_key(block, span)?;
+    let value = block.part(span.value_at, span.end)?;
+    Ok((key, value))
+}
+
+/// The key where a span says, which shares the bytes of the block.
+pub fn share_key(block: &Block, span: Span) -> Result<Key, NoMemory>
+    requires { IsSpan block.now span }
+    ensures { IfOk result (λ key. key ≡ key_in block.now span) }
+{
+    let key = Key::from_data(block.part(span.key_at, span.value_at)?);
+    Ok(key.unwrap())
 }
 
 /// Whether entries that fit into a block make a node of this level.
@@ -98,5 +141,5 @@ fn are_children(entries: &[(Key, Data)]) -> bool
 fn is_rising(entries: &[(Key, Data)]) -> bool
     ensures { IsTrue result ↔ IsRising entries.now }
 {
-    entries.is_sorted_by(|first, second| first.0 < second.0)
+    entries.is_sorted_by(|first, second| comes_before(first.0.bytes(), second.0.bytes()))
 }

@@ -358,3 +358,8 @@ module _ (s t : Store) (root first next : ℕ) (tree : IsTree s root) (fresh : (
       mine q node e =
           let filled : s root ≢ None = subst (λ (n : ℕ). s n ≢ None) e (IsNodeOf-filled s other q h.tree node) in
           subst (IsNodeOf s root) (sym e) (IsNodeOf-root s root tree filled)
+
+-- a tree has at most eight levels
+pub few_levels : (store : Store) (level at : ℕ) (bounds : Bounds) → IsSubtree store level at bounds → level ≤ 7
+few_levels store zero at bounds tree = omega arith
+few_levels store (suc level) at bounds tree = tree.1.spells.node.level_fits

@@ -1,6 +1,8 @@
 -- A change carried up from a leaf to the root, as the code goes.
-use Rattle.std.proofs.Common.{◌≡◌, ◌≢◌, ℕ, suc, ◌+◌, ◌<◌, ◌≤◌, ◌^◌, List, [], ◌∷◌, ◌++◌, length, Option, Some, None, refl, sym, ◌∙◌, ap, subst, inl, inr, arith}
+use Rattle.std.proofs.Common.{◌≡◌, ◌≢◌, ℕ, suc, ◌+◌, ◌<◌, ◌≤◌, ◌^◌, List, [], ◌∷◌, ◌++◌, length, Option, Some, None, refl, sym, ◌∙◌, ap, subst, inl, inr, arith, zero}
 use Rattle.std.specs.Option.{IfSome}
+use Rattle.std.proofs.lemmas.Bool.{true≢false}
+use Rattle.std.specs.List.{Contains}
 use Rattle.std.specs.FinMap as map
 use Rattle.sea_base.specs.Name.{IsName}
 use Rattle.sea_base.specs.Space.{Store, Seen, IsKnown, IsSound, Agrees, laid}
@@ -9,14 +11,14 @@ use Rattle.sea_node.specs.Entries.{Entry, Values, size, edited}
 use Rattle.sea_tree.specs.declared.edit.Edit.{Edit}
 use Rattle.sea_tree.specs.declared.way.Step.{Step}
 use Rattle.sea_tree.specs.declared.way.Way.{Way}
-use Rattle.sea_tree.specs.Tree.{Bounds, root_bounds, IsAddress, child_bounds}
+use Rattle.sea_tree.specs.Tree.{Bounds, NodeAt, IsNodeOf, root_bounds, IsAddress, child_bounds}
 use Rattle.sea_tree.specs.Content.{HasContent}
 use Rattle.sea_tree.specs.Breaks.{HasNode}
 use Rattle.sea_tree.specs.Calls.{Meets}
 use Rattle.sea_tree.specs.Does.{Change, overlaid, Does}
 use Rattle.sea_tree.specs.Subtrees.{Holds}
-use Rattle.sea_tree.specs.Mending.{Aim, after_edit, IsNearPlace, Mending, Replaced}
-use Rattle.sea_tree.specs.Changing.{Changed, changed_content, IsPlanned, RootSettled, RootSinks}
+use Rattle.sea_tree.specs.Mending.{Aim, IsGiven, after_edit, IsNearPlace, Mending, Replaced}
+use Rattle.sea_tree.specs.Changing.{Changed, changed_content, IsPlanned, TouchesOwn, RootSettled, RootSinks}
 use Rattle.sea_tree.specs.Place.{meant}
 use Rattle.sea_tree.specs.Settled.{IsNearChild, Settled}
 use Rattle.sea_tree.specs.Way.{StepsDown, ComesDown, AreKnown, IsKnownWay}
@@ -25,11 +27,14 @@ use Rattle.sea_tree.proofs.Holding.{one_node, node_held, same_address}
 use Rattle.sea_tree.proofs.Contents.{content_held}
 use Rattle.sea_tree.proofs.Ways.{laid_same, Descends-laid, StepsDown-same, first_node, step_lies}
 use Rattle.sea_tree.proofs.Mending.{mending_begun, fits_replaced, replaced_changed}
-use Rattle.sea_tree.proofs.MendSplit.{IsFree, given_more}
+use Rattle.sea_tree.proofs.MendSplit.{IsFree, given_more, mending_child_filled}
 use Rattle.sea_tree.proofs.MendSides.{puts_one}
 use Rattle.sea_tree.proofs.MendRoot.{root_split_puts, root_split, root_sunk_puts, root_sunk, root_emptied}
 use Rattle.sea_tree.proofs.MendSettled.{IsMended, settled_mended}
 use Rattle.sea_tree.proofs.MendWay.{last_step, way_held, way_replaced}
+use Rattle.sea_tree.specs.Reads.{IsChildOf}
+use Rattle.sea_tree.proofs.Lone.{lone_edit}
+use Rattle.sea_tree.proofs.Touched.{among_append, child_in, settled_touches, root_touches, at_top, child_of_tree}
 use Rattle.sea_tree.proofs.NearUp.{near_up, same_split}
 
 -- what is aimed at, with what was given from one state to another
@@ -42,7 +47,9 @@ pub record Climbs (begun now : Seen) (root : ℕ) (key : List ℕ) (value : Opti
   pub down : ComesDown begun root key steps level at bounds entries
   pub near : IsNearPlace level bounds after
   pub grown : 1 ≤ level → size after ≤ size entries + 75
+  pub lone : (e : Entry) → 1 ≤ level → after ≡ e ∷ [] → Contains entries e
   pub reads : Does [] begun now
+  pub touched : TouchesOwn root begun now changes
   pub mending : (store : Store) (before : Values) → Meets store root begun now before → Mending (laid begun store) (overlaid changes (laid begun store)) level at bounds entries after (aim_of key value begun now)
 
 -- it begins at the leaf
@@ -56,10 +63,12 @@ climbs_begun begun root key value way sound name short known nothing near =
       down = known.down;
       near = near;
       grown = λ some. absurd (omega (arith, some));
+      lone = λ e some is. absurd (omega (arith, some));
       reads = nothing;
+      touched = λ store q agrees e. absurd (true≢false (sym e));
       mending = λ store before meets.
           let here = (Descends-laid begun begun store root key way.steps.items 0 way.at.0 (meant way.bounds) way.leaf.entries (only_read-refl begun) sound meets.agrees known.down).1 in
-          mending_begun (laid begun store) way.at.0 (meant way.bounds) way.leaf.entries (aim_of key value begun begun) here name short known.down.leads.0 known.down.leads.1;
+          mending_begun (laid begun store) way.at.0 (meant way.bounds) way.leaf.entries (aim_of key value begun begun) here name short known.down.leads.0 known.down.leads.1 (omega arith);
     })
 
 -- the step above, on what was seen
@@ -129,6 +138,29 @@ settled_above begun now new root key value steps step level at entries after cha
     now new store meets.agrees (λ q. sym (Does-laid [] climbs.reads store q)) climbs.reads.next refl (omega (arith, small)) (λ q given. meets.fresh q given.0 given.1)
     (overlaid (added ++ changes) was) added left settled (λ q. overlaid-append added changes was q)
 
+-- what is written there too is the tree's own
+pub settled_own : (begun now new : Seen) (root : ℕ) (key : List ℕ) (value : Option (List ℕ)) (steps : List Step) (step : Step) (level at : ℕ) (entries after : List Entry) (changes added : List Change) (left : Option Edit)
+    → IsSound begun → (climbs : Climbs begun now root key value (steps ++ step ∷ []) level at entries after changes) → Settled level at after step now new added left → Does [] now new
+    → TouchesOwn root begun new (added ++ changes)
+settled_own begun now new root key value steps step level at entries after changes added left sound climbs settled goes store q agrees e =
+    let agrees_now : Agrees store now = Does-agrees [] goes store agrees in
+    let agrees_begun : Agrees store begun = Does-agrees [] climbs.reads store agrees_now in
+    let above = step_above begun root key steps step level at climbs.bounds entries climbs.down in
+    let there = Descends-laid begun begun store root key steps (suc level) step.at.0 above.asked step.node.entries (only_read-refl begun) sound agrees_begun above.comes in
+    let first = first_node (laid begun store) above.comes.top root root_bounds steps key (suc level) step.at.0 above.asked step.node.entries there.0 there.1 in
+    let own = child_in step.node.entries above.down.before above.down.entry above.down.after at above.down.split.split above.down.address in
+    elim (among_append added changes q e) [
+      | inl here ↦ elim (settled_touches level at after step now new own q added left settled here) [
+        | inl child ↦ inr (inl (child_of_tree (laid begun store) above.comes.top root steps key level step.at.0 above.asked step.node.entries q first there.0 there.1.0 child))
+        | inr given ↦ inr (inr (omega (arith, climbs.reads.next, given.0), given.1))
+      ]
+      | inr earlier ↦ elim (climbs.touched store q agrees_now earlier) [
+        | inl root_is ↦ inl root_is
+        | inr (inl node) ↦ inr (inl node)
+        | inr (inr given) ↦ inr (inr (given.0, omega (arith, given.1, goes.next)))
+      ]
+    ]
+
 -- What is left to the parent is the same climb, one step up.
 pub climbs_up : (begun now new : Seen) (root : ℕ) (key : List ℕ) (value : Option (List ℕ)) (steps : List Step) (step : Step) (level at : ℕ) (entries after : List Entry) (changes added : List Change) (edit : Edit)
     → IsSound begun → now.next < 2 ^ 62 + 2 ^ 47 → Climbs begun now root key value (steps ++ step ∷ []) level at entries after changes → Settled level at after step now new added (Some edit) → Does [] now new
@@ -141,7 +173,9 @@ climbs_up begun now new root key value steps step level at entries after changes
       down = above.comes;
       near = grows.near;
       grown = λ _. grows.grown;
+      lone = λ e _ is. lone_edit level step.node.entries edit e above.down.node.0.spells.node is;
       reads = Does-then [] [] climbs.reads goes;
+      touched = settled_own begun now new root key value steps step level at entries after changes added (Some edit) sound climbs settled goes;
       mending = settled_above begun now new root key value steps step level at entries after changes added (Some edit) sound small climbs settled goes above;
     }
 
@@ -218,8 +252,10 @@ module _ (begun now new : Seen) (root : ℕ) (key : List ℕ) (value : Option (L
           let there : is s.child ≡ Some node.node.0.bytes = subst (λ (q : ℕ). is q ≡ Some node.node.0.bytes) (same_address s.only.1 m.below_is.0 s.child m.below_is.5 s.address) node.node.0.here in
           let block : s.block ≡ Some node.node.0.bytes = s.child_block store meets.agrees ∙ overlaid-same changes (laid now store) was s.child (Does-laid [] climbs.reads store s.child) ∙ there in
           let planned : added ≡ (s.child, None) ∷ (root, Some node.node.0.bytes) ∷ [] = s.planned ∙ ap (λ (b : Option (List ℕ)). (s.child, None) ∷ (root, b) ∷ []) block in
+          let among : Contains entries s.only = climbs.lone s.only (omega (arith, s.level_is)) s.one in
+          let old_child : IsGiven aim s.child → ⊥ = λ given. mending_child_filled was is s.below root root_bounds entries (s.only ∷ []) aim m s.only s.child among s.address (free s.child given) in
           let puts = root_sunk_puts was is is' s.below root entries s.only.0 s.only.1 s.child node.node.0.bytes aim m s.address free there (put _ planned) in
-          let done : Replaced was is' (suc s.below) s.below root root_bounds aim = root_sunk was is is' s.below root entries s.only.0 s.only.1 s.child aim m s.address free puts in
+          let done : Replaced was is' (suc s.below) s.below root root_bounds aim = root_sunk was is is' s.below root entries s.only.0 s.only.1 s.child aim m s.address free old_child puts in
           replaced_changed was is' (suc s.below) s.below root aim before meets.content done free
   rooted (inr (inr (inr e))) =
       let aim : Aim = aim_of key value begun new in
@@ -233,3 +269,27 @@ pub climbs_rooted : (begun now new : Seen) (root : ℕ) (key : List ℕ) (value 
     → Climbs begun now root key value [] level at entries after changes → RootSettled level root after now new changes added → Does [] now new → IsPlanned root key value begun new (added ++ changes)
 climbs_rooted begun now new root key value level at entries after changes added small climbs settled goes store before meets =
     rooted begun now new root key value level at entries after changes added small climbs goes store before meets settled
+
+pub rooted_own : (begun now new : Seen) (root : ℕ) (key : List ℕ) (value : Option (List ℕ)) (level at : ℕ) (entries after : List Entry) (changes added : List Change) → IsSound begun
+    → Climbs begun now root key value [] level at entries after changes → RootSettled level root after now new changes added → Does [] now new → TouchesOwn root begun new (added ++ changes)
+rooted_own begun now new root key value level at entries after changes added sound climbs settled goes store q agrees e =
+    let agrees_now : Agrees store now = Does-agrees [] goes store agrees in
+    let agrees_begun : Agrees store begun = Does-agrees [] climbs.reads store agrees_now in
+    let there = Descends-laid begun begun store root key [] level at climbs.bounds entries (only_read-refl begun) sound agrees_begun climbs.down in
+    let node : NodeAt (laid begun store) root level entries = subst (λ (x : ℕ). NodeAt (laid begun store) x level entries) (sym climbs.down.descent.1) there.1.0 in
+    elim (among_append added changes q e) [
+      | inl here ↦ elim (root_touches level root after now new changes added settled q here) [
+        | inl same ↦ inl same
+        | inr (inl given) ↦ inr (inr (omega (arith, climbs.reads.next, given.0), given.1))
+        | inr (inr only) ↦ inr (inl (only_child (laid begun store) level root entries q node only.1 (only.0, climbs.lone only.0 only.1 only.2, only.3)))
+      ]
+      | inr earlier ↦ elim (climbs.touched store q agrees_now earlier) [
+        | inl root_is ↦ inl root_is
+        | inr (inl own) ↦ inr (inl own)
+        | inr (inr given) ↦ inr (inr (given.0, omega (arith, given.1, goes.next)))
+      ]
+    ]
+  where
+    only_child : (s : Store) (level root : ℕ) (entries : List Entry) (q : ℕ) → NodeAt s root level entries → 1 ≤ level → IsChildOf entries q → IsNodeOf s root q
+    only_child s zero root entries q node some child = absurd (omega (arith, some))
+    only_child s (suc level) root entries q node some child = (suc level, (entries, node), inr (entries, node, (child.0, child.1, (q, child.2, at_top s level q))))

@@ -1,5 +1,5 @@
 -- What calls do one after the other to a transaction's view.
-use Rattle.std.proofs.Common.{◌≡◌, ◌⊎◌, ℕ, ◌+◌, List, [], ◌∷◌, ◌++◌, Bool, true, false, cond, ◌||◌, ◌==◌, Option, Some, None, refl, sym, ◌∙◌, ap, inl, inr, arith, length-append}
+use Rattle.std.proofs.Common.{◌≡◌, ◌≢◌, ◌⊎◌, ℕ, ◌+◌, List, [], ◌∷◌, ◌++◌, Bool, true, false, cond, ◌||◌, ◌==◌, Option, Some, None, refl, sym, ◌∙◌, ap, inl, inr, arith, length-append}
 use Rattle.std.proofs.lemmas.Bool.{cases_Bool, eqb-true, eqb-false, true≢false}
 use Rattle.std.specs.List.{Contains}
 use Rattle.std.specs.Option.{IsSome, is_some}
@@ -15,6 +15,14 @@ or_left false b e = absurd (true≢false (sym e))
 or_right : (a b : Bool) → a ≡ false → (a || b) ≡ b
 or_right false b e = refl
 or_right true b e = absurd (true≢false e)
+
+neither_left : (a b : Bool) → (a || b) ≡ false → a ≡ false
+neither_left true b e = absurd (true≢false e)
+neither_left false b e = refl
+
+neither_right : (a b : Bool) → (a || b) ≡ false → b ≡ false
+neither_right true b e = absurd (true≢false e)
+neither_right false b e = e
 
 or_assoc : (a b c : Bool) → ((a || b) || c) ≡ (a || (b || c))
 or_assoc true b c = refl
@@ -60,6 +68,8 @@ Does-read r = record {
   reads = r.noted;
   changed = r.changed;
   view = λ q k. elim k [ inl e ↦ absurd (true≢false (sym e)) | inr k ↦ r.known q k ];
+  whole = λ q e. r.whole q;
+  splices = λ q e. r.splices q;
   next = omega (arith, r.next);
 }
 
@@ -71,14 +81,21 @@ Does-write {old} {new} at block w = record {
     | inl e ↦ (let same : q ≡ at = eqb-true q at e in ap new.view same ∙ w.here ∙ sym (ap (λ (b : Bool). cond b block (old.view q)) e))
     | inr e ↦ w.others q (eqb-false q at e) ∙ sym (ap (λ (b : Bool). cond b block (old.view q)) e)
   ];
+  whole = λ q e. w.whole q (not_one q at e);
+  splices = λ q e. w.splices q (not_one q at e);
   next = omega (arith, w.next);
 }
+  where
+    not_one : (q at : ℕ) → (q == at || false) ≡ false → q ≢ at
+    not_one q at e = eqb-false q at (neither_left (q == at) false e)
 
 pub Does-give : {old new : Seen} (count : ℕ) → Gives count old new → Does [] old new
 Does-give count g = record {
   reads = λ q found e. g.reads q ∙ e;
   changed = g.changed;
   view = λ q k. g.view q;
+  whole = λ q e. g.whole q;
+  splices = λ q e. g.splices q;
   next = omega (arith, g.next);
 }
 
@@ -103,6 +120,8 @@ Does-then {a} {b} {c} first later d e = record {
         let kb : IsKnown b q = elim k2 [ inl x ↦ inl (Does-among first d q x) | inr x ↦ Does-known first d q x ] in
         e.view q (inr kb) ∙ overlaid-same later b.view (overlaid first a.view) q (d.view q k2) ∙ sym (overlaid-append later first a.view q)
   ];
+  whole = λ q none. let apart : (is_among later q || is_among first q) ≡ false = sym (is_among-append later first q) ∙ none in e.whole q (neither_left _ _ apart) ∙ d.whole q (neither_right _ _ apart);
+  splices = λ q none. let apart : (is_among later q || is_among first q) ≡ false = sym (is_among-append later first q) ∙ none in e.splices q (neither_left _ _ apart) ∙ d.splices q (neither_right _ _ apart);
   next = omega (arith, d.next, e.next);
 }
 

@@ -5,9 +5,12 @@ pub mod Contents
 pub mod Counting
 pub mod Cuts
 pub mod Doing
+pub mod Forms
 pub mod Frames
 pub mod Holding
 pub mod Leaves
+pub mod Listed
+pub mod Lone
 pub mod Lookups
 pub mod MendCut
 pub mod MendJoin
@@ -22,6 +25,8 @@ pub mod MendWay
 pub mod Mended
 pub mod Mending
 pub mod NearUp
+pub mod Nears
+pub mod OnWays
 pub mod Performing
 pub mod Places
 pub mod Puts
@@ -30,7 +35,9 @@ pub mod RootSettles
 pub mod Settles
 pub mod Splits
 pub mod Taking
+pub mod Touched
 pub mod Walked
 pub mod Walks
 pub mod WaySteps
 pub mod Ways
+pub mod WholeWays

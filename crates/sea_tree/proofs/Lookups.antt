@@ -23,6 +23,8 @@ use Rattle.sea_tree.specs.Place.{Splits, IsPlaceFault}
 use Rattle.sea_tree.specs.Way.{ComesDown, IsWay}
 use Rattle.sea_tree.specs.Lookup.{LooksDown, LooksAtLeaf}
 use Rattle.sea_tree.proofs.Ways.{ComesDown-later, Descends-laid, no_break}
+use Rattle.sea_tree.specs.Reads.{IsOnWay}
+use Rattle.sea_tree.proofs.OnWays.{step_on_way}
 use Rattle.sea_tree.proofs.WaySteps.{IsStep, comes_further, step_fault}
 use Rattle.sea_tree.proofs.Leaves.{leaf_find}
 use Rattle.sea_tree.proofs.Places.{placed, first_within, first_same}
@@ -160,10 +162,15 @@ module _ (mid new : Seen) (root : ℕ) (key : List ℕ) (upper : Option (List �
     tells = tells;
   }
 
-  pub look_fault : (old : Seen) → OnlyRead old new → IsSound new → (before since now : ℕ) (tells told : Bool) (fault : TreeFault) → before ≤ since → told ≡ tells → IsPlaceFault (lookup.level - 1) child below new since now told fault → IsWayFault root key old new before now tells fault
+  pub look_fault : (old : Seen) → OnlyRead old new → IsSound new → (fault : TreeFault) → IsPlaceFault (lookup.level - 1) child below new fault → IsWayFault root key old new fault
   unfolding step
-  look_fault old all sound before since now tells told fault le same cause =
-      step_fault old new root key all sound before now tells looks.steps (lookup.level - 1) looks.at looks.bounds step child below since told fault goes le same cause
+  look_fault old all sound fault blames =
+      step_fault old new root key all sound looks.steps (lookup.level - 1) looks.at looks.bounds step child below fault goes blames
+
+  pub looks_on_way : (old : Seen) → OnlyRead old new → IsSound new → (store : Store) → Agrees store new → IsOnWay (laid old store) key root child
+  unfolding step
+  looks_on_way old all sound store agrees =
+      step_on_way old new root key all sound looks.steps (lookup.level - 1) looks.at looks.bounds step child below goes store agrees
 
 -- ---- the leaf
 

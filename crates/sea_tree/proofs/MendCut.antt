@@ -1,5 +1,5 @@
 -- Two adjacent children are cut anew: each takes a part of the entries of both.
-use Rattle.std.proofs.Common.{◌≡◌, ◌⊎◌, ℕ, suc, ◌≤◌, List, [], ◌∷◌, ◌++◌, length, Some, refl, sym, ap, subst, ◌∙◌, inl, inr, arith, append_assoc}
+use Rattle.std.proofs.Common.{◌≡◌, ◌⊎◌, ℕ, suc, ◌≤◌, List, [], ◌∷◌, ◌++◌, length, Some, refl, sym, ap, subst, ◌∙◌, inl, inr, arith, append_assoc, None}
 use Rattle.std.specs.List.{All, Contains}
 use Rattle.std.proofs.lemmas.List.Elements.{All-head, All-cons, All-weaker, All-from_recursion, Contains-append_left, Contains-append_right, Contains-append_cases}
 use Rattle.sea_base.specs.Name.{IsName}
@@ -14,10 +14,10 @@ use Rattle.sea_tree.specs.Mending.{moved, IsNearPlace, Aim, IsGiven, Mending, Re
 use Rattle.sea_tree.proofs.Holding.{Contains-cases}
 use Rattle.sea_tree.proofs.Frames.{AllBelow-kept, AllBelow-one, AllBelow-around}
 use Rattle.sea_tree.proofs.MendNear.{All-left, All-right, before_below, moved-at, IsNearPlace-moved, IsNode-filled, IsInPlace-near, left_bounds, right_bounds, Halves}
-use Rattle.sea_tree.proofs.MendSides.{PutsTwo, puts_two, puts_turned}
+use Rattle.sea_tree.proofs.MendSides.{PutsTwo, puts_two, puts_turned, both, below_both, both_first, both_second, both_cases}
 use Rattle.sea_tree.proofs.MendSplit.{IsFree, TwoHeld, two_held}
 use Rattle.sea_tree.proofs.MendPair.{AreInPlace, Paired}
-use Rattle.sea_tree.proofs.MendJoin.{both, both_first, both_second, beside_differ, put_kept, put_below, put_among, put_mended, put_replaced}
+use Rattle.sea_tree.proofs.MendJoin.{beside_differ, put_kept, put_below, put_among, put_still, put_mended, put_replaced}
 
 -- ---- two parts of entries in their place
 
@@ -109,6 +109,19 @@ module _ (was is is' : Store) (level top : ℕ) (bounds : Bounds) (a : List Entr
     ]
   ]
 
+  new_both : (q : ℕ) → Contains p.new_nodes q → Contains (both x held.nodes_a y held.nodes_b) q
+  new_both q c = below_both x held.nodes_a y held.nodes_b q (subst (λ (l : List ℕ). Contains l q) held.nodes_are c)
+
+  back : (q : ℕ) → Contains (both x p.beside.nodes_one y p.beside.nodes_two) q → Contains (both x held.nodes_a y held.nodes_b) q ⊎ (is' q ≡ None)
+  back q c = elim (both_cases x p.beside.nodes_one y p.beside.nodes_two q c) [
+    | inl front ↦ inl (subst (Contains (both x held.nodes_a y held.nodes_b)) front (both_first x held.nodes_a y held.nodes_b))
+    | inr (inl last) ↦ inl (subst (Contains (both x held.nodes_a y held.nodes_b)) last (both_second x held.nodes_a y held.nodes_b))
+    | inr (inr below) ↦ elim (put_still was is is' level top bounds a one two b x y (left ++ right) aim p free (Some (node_bytes level left)) (Some (node_bytes level right)) puts q below) [
+      | inl new ↦ inl (new_both q new)
+      | inr none ↦ inr none
+    ]
+  ]
+
   moved_is : moved two.0 key (a ++ (one ∷ (two ∷ b))) ≡ a ++ (one ∷ ((key, two.1) ∷ b))
   moved_is = moved-at (suc level) (a ++ (one ∷ (two ∷ b))) a one two.0 key two.1 b refl p.beside.node.0.spells.node
 
@@ -117,14 +130,14 @@ module _ (was is is' : Store) (level top : ℕ) (bounds : Bounds) (a : List Entr
       put_mended was is is' level top bounds a one two b x y (left ++ right) aim p free (Some (node_bytes level left)) (Some (node_bytes level right)) puts (moved two.0 key (a ++ (one ∷ (two ∷ b)))) (both x held.nodes_a y held.nodes_b)
       (subst (λ (es : List Entry). AllBelow (Holds is' level) es bounds.upper (p.beside.pairs_a ++ (p.new_pairs ++ p.beside.pairs_b)) (p.beside.nodes_a ++ (both x held.nodes_a y held.nodes_b ++ p.beside.nodes_b))) (sym moved_is) cut_below)
       (IsNearPlace-moved (suc level) bounds (a ++ (one ∷ (two ∷ b))) a one two.0 key two.1 b refl p.beside.node.0.spells.node p.beside.node.1 parts.name parts.above parts.within)
-      among_both
+      among_both back new_both
 
   pub cut_stays : key ≡ two.0 → Replaced was is' (suc level) (suc level) top bounds aim
   cut_stays same =
       let entry : (key, two.1) ≡ two = ap (λ (k : List ℕ). (k, two.1)) same in
       put_replaced was is is' level top bounds a one two b x y (left ++ right) aim p free (Some (node_bytes level left)) (Some (node_bytes level right)) puts (both x held.nodes_a y held.nodes_b)
       (subst (λ (e : Entry). AllBelow (Holds is' level) (a ++ (one ∷ (e ∷ b))) bounds.upper (p.beside.pairs_a ++ (p.new_pairs ++ p.beside.pairs_b)) (p.beside.nodes_a ++ (both x held.nodes_a y held.nodes_b ++ p.beside.nodes_b))) entry cut_below)
-      among_both
+      among_both back new_both
 
 -- the two blocks as they are put
 pub cut_puts : (was is is' : Store) (level top : ℕ) (bounds : Bounds) (a : List Entry) (one two : Entry) (b : List Entry) (x y : ℕ) (entries left right : List Entry) (aim : Aim) → Paired was is level top bounds a one two b x y entries aim → ((q : ℕ) → is' q ≡ overlaid ((y, Some (node_bytes level right)) ∷ (x, Some (node_bytes level left)) ∷ []) is q) → PutsTwo is is' x (Some (node_bytes level left)) y (Some (node_bytes level right))

@@ -17,28 +17,11 @@ use Rattle.sea_tree.proofs.Holding.{Holds-node, Contains-head, Contains-later, C
 use Rattle.sea_tree.proofs.Frames.{IsSameOn, HasNode-kept, AllBelow-kept, AllBelow-around, Below-kept}
 use Rattle.sea_tree.proofs.Apart.{AllBelow-distinct, AllBelow-filled, at_not_below, distinct-head, distinct-left, distinct-right, distinct-apart, distinct-middle}
 use Rattle.sea_tree.proofs.MendNear.{All-right, IsNearPlace-edited, IsNode-filled, IsInPlace-near}
-use Rattle.sea_tree.proofs.MendSides.{edited_middle, sides_before, sides_below, sides_upper, sides_above, sides_whole, Contains-other_middle, Contains-middle, PutsTwo, puts_two, puts_turned}
+use Rattle.sea_tree.proofs.MendSides.{edited_middle, sides_before, sides_below, sides_upper, sides_above, sides_whole, Contains-other_middle, Contains-middle, both, below_both, both_first, both_second, both_cases, PutsTwo, puts_two, puts_turned}
 use Rattle.sea_tree.proofs.MendSplit.{IsFree, put_node}
 use Rattle.sea_tree.proofs.MendPair.{IsNearPlace-sized, Beside, beside_one, beside_two, beside_rising, beside_within, Paired}
 
 -- ---- two nodes and those below them
-
--- two addresses, each with those below it
-abbrev pub both : ℕ → List ℕ → ℕ → List ℕ → List ℕ
-both x n y k = (x ∷ n) ++ (y ∷ k)
-
--- those below either are among all
-pub below_both : (x : ℕ) (n : List ℕ) (y : ℕ) (k : List ℕ) (q : ℕ) → Contains (n ++ k) q → Contains (both x n y k) q
-below_both x n y k q c = elim (Contains-append_cases n k q c) [
-  | inl first ↦ Contains-append_left (x ∷ n) (y ∷ k) q (Contains-later x n q first)
-  | inr later ↦ Contains-append_right (x ∷ n) (y ∷ k) q (Contains-later y k q later)
-]
-
-pub both_first : (x : ℕ) (n : List ℕ) (y : ℕ) (k : List ℕ) → Contains (both x n y k) x
-both_first x n y k = Contains-head x (n ++ (y ∷ k))
-
-pub both_second : (x : ℕ) (n : List ℕ) (y : ℕ) (k : List ℕ) → Contains (both x n y k) y
-both_second x n y k = Contains-append_right (x ∷ n) (y ∷ k) y (Contains-head y k)
 
 -- where all are distinct the two are, and neither is among those below
 first_not_second : (x : ℕ) (n : List ℕ) (y : ℕ) (k : List ℕ) → AllPairs ◌≢◌ (both x n y k) → x ≢ y
@@ -143,9 +126,24 @@ module _ (was is is' : Store) (level top : ℕ) (bounds : Bounds) (a : List Entr
   pub put_around : (n : List ℕ) → ((q : ℕ) → Contains n q → Contains (both x p.beside.nodes_one y p.beside.nodes_two) q ⊎ IsGiven aim q) → (q : ℕ) → Contains (p.beside.nodes_a ++ (n ++ p.beside.nodes_b)) q → Contains (p.beside.nodes_a ++ (both x p.beside.nodes_one y p.beside.nodes_two ++ p.beside.nodes_b)) q ⊎ IsGiven aim q
   put_around n each q c = Contains-other_middle p.beside.nodes_a n (both x p.beside.nodes_one y p.beside.nodes_two) p.beside.nodes_b q (IsGiven aim q) (each q) c
 
+  -- a node that stood below the two stands there still, or is empty
+  pub put_still : (q : ℕ) → Contains (p.beside.nodes_one ++ p.beside.nodes_two) q → Contains p.new_nodes q ⊎ (is' q ≡ None)
+  put_still q c =
+      let distinct = beside_distinct was level top bounds a one two b x y p.beside in
+      elim (p.stays q c) [
+        | inl new ↦ inl new
+        | inr none ↦ inr (
+            puts.others q
+            (λ same. first_not_below x p.beside.nodes_one y p.beside.nodes_two distinct (subst (Contains (p.beside.nodes_one ++ p.beside.nodes_two)) same c))
+            (λ same. second_not_below x p.beside.nodes_one y p.beside.nodes_two distinct (subst (Contains (p.beside.nodes_one ++ p.beside.nodes_two)) same c)) ∙ none)
+      ]
+
+  put_stays : (n : List ℕ) → ((q : ℕ) → Contains (both x p.beside.nodes_one y p.beside.nodes_two) q → Contains n q ⊎ (is' q ≡ None)) → (q : ℕ) → Contains (p.beside.nodes_a ++ (both x p.beside.nodes_one y p.beside.nodes_two ++ p.beside.nodes_b)) q → Contains (p.beside.nodes_a ++ (n ++ p.beside.nodes_b)) q ⊎ (is' q ≡ None)
+  put_stays n back q c = Contains-other_middle p.beside.nodes_a (both x p.beside.nodes_one y p.beside.nodes_two) n p.beside.nodes_b q (is' q ≡ None) (back q) c
+
   -- so the node above is to have other entries, where its children are these
-  pub put_mended : (now : List Entry) (n : List ℕ) → AllBelow (Holds is' level) now bounds.upper (p.beside.pairs_a ++ (p.new_pairs ++ p.beside.pairs_b)) (p.beside.nodes_a ++ (n ++ p.beside.nodes_b)) → IsNearPlace (suc level) bounds now → ((q : ℕ) → Contains n q → Contains (both x p.beside.nodes_one y p.beside.nodes_two) q ⊎ IsGiven aim q) → Mending was is' (suc level) top bounds (a ++ (one ∷ (two ∷ b))) now aim
-  put_mended now n below near each = record {
+  pub put_mended : (now : List Entry) (n : List ℕ) → AllBelow (Holds is' level) now bounds.upper (p.beside.pairs_a ++ (p.new_pairs ++ p.beside.pairs_b)) (p.beside.nodes_a ++ (n ++ p.beside.nodes_b)) → IsNearPlace (suc level) bounds now → ((q : ℕ) → Contains n q → Contains (both x p.beside.nodes_one y p.beside.nodes_two) q ⊎ IsGiven aim q) → ((q : ℕ) → Contains (both x p.beside.nodes_one y p.beside.nodes_two) q → Contains n q ⊎ (is' q ≡ None)) → ((q : ℕ) → Contains p.new_nodes q → Contains n q) → Mending was is' (suc level) top bounds (a ++ (one ∷ (two ∷ b))) now aim
+  put_mended now n below near each back all = record {
     old_pairs = p.beside.pairs_a ++ (p.beside.pairs_one ++ (p.beside.pairs_two ++ p.beside.pairs_b));
     new_pairs = p.beside.pairs_a ++ (p.new_pairs ++ p.beside.pairs_b);
     old_nodes = p.beside.nodes_a ++ (both x p.beside.nodes_one y p.beside.nodes_two ++ p.beside.nodes_b);
@@ -159,6 +157,8 @@ module _ (was is is' : Store) (level top : ℕ) (bounds : Bounds) (a : List Entr
     key_upper = p.key_upper;
     elsewhere = λ q out unknown. put_elsewhere q (λ c. out (Contains-middle p.beside.nodes_a (both x p.beside.nodes_one y p.beside.nodes_two) p.beside.nodes_b q c)) unknown;
     nodes = put_around n each;
+    stays = λ q c. put_stays n back q c;
+    uses = λ q given. Contains-middle p.beside.nodes_a n p.beside.nodes_b q (all q (p.uses q given));
   }
 
   abbrev old : List ℕ
@@ -172,8 +172,8 @@ module _ (was is is' : Store) (level top : ℕ) (bounds : Bounds) (a : List Entr
       (λ given. let clash : Some p.beside.node.0.bytes ≡ None = sym p.beside.node.0.here ∙ free top given in cc)
 
   -- or it stays
-  pub put_replaced : (n : List ℕ) → AllBelow (Holds is' level) (a ++ (one ∷ (two ∷ b))) bounds.upper (p.beside.pairs_a ++ (p.new_pairs ++ p.beside.pairs_b)) (p.beside.nodes_a ++ (n ++ p.beside.nodes_b)) → ((q : ℕ) → Contains n q → Contains (both x p.beside.nodes_one y p.beside.nodes_two) q ⊎ IsGiven aim q) → Replaced was is' (suc level) (suc level) top bounds aim
-  put_replaced n below each = record {
+  pub put_replaced : (n : List ℕ) → AllBelow (Holds is' level) (a ++ (one ∷ (two ∷ b))) bounds.upper (p.beside.pairs_a ++ (p.new_pairs ++ p.beside.pairs_b)) (p.beside.nodes_a ++ (n ++ p.beside.nodes_b)) → ((q : ℕ) → Contains n q → Contains (both x p.beside.nodes_one y p.beside.nodes_two) q ⊎ IsGiven aim q) → ((q : ℕ) → Contains (both x p.beside.nodes_one y p.beside.nodes_two) q → Contains n q ⊎ (is' q ≡ None)) → ((q : ℕ) → Contains p.new_nodes q → Contains n q) → Replaced was is' (suc level) (suc level) top bounds aim
+  put_replaced n below each back all = record {
     old_pairs = p.beside.pairs_a ++ (p.beside.pairs_one ++ (p.beside.pairs_two ++ p.beside.pairs_b));
     new_pairs = p.beside.pairs_a ++ (p.new_pairs ++ p.beside.pairs_b);
     old_nodes = top ∷ (p.beside.nodes_a ++ (both x p.beside.nodes_one y p.beside.nodes_two ++ p.beside.nodes_b));
@@ -188,6 +188,11 @@ module _ (was is is' : Store) (level top : ℕ) (bounds : Bounds) (a : List Entr
       | inl same ↦ inl (subst (Contains (top ∷ old)) same (Contains-head top old))
       | inr later ↦ elim (put_around n each q later) [ inl held ↦ inl (Contains-later top old q held) | inr given ↦ inr given ]
     ];
+    stays = λ q c. elim (Contains-cases top old q c) [
+      | inl same ↦ inl (subst (Contains (top ∷ (p.beside.nodes_a ++ (n ++ p.beside.nodes_b)))) same (Contains-head top (p.beside.nodes_a ++ (n ++ p.beside.nodes_b))))
+      | inr later ↦ elim (put_stays n back q later) [ inl held ↦ inl (Contains-later top (p.beside.nodes_a ++ (n ++ p.beside.nodes_b)) q held) | inr none ↦ inr none ]
+    ];
+    uses = λ q given. Contains-later top (p.beside.nodes_a ++ (n ++ p.beside.nodes_b)) q (Contains-middle p.beside.nodes_a n p.beside.nodes_b q (all q (p.uses q given)));
   }
 
 -- ---- two become one
@@ -222,6 +227,12 @@ module _ (was is is' : Store) (level top : ℕ) (bounds : Bounds) (a : List Entr
         | inl same ↦ inl (subst (Contains (both x p.beside.nodes_one y p.beside.nodes_two)) same (both_first x p.beside.nodes_one y p.beside.nodes_two))
         | inr later ↦ put_among was is is' level top bounds a one two b x y entries aim p free (Some (node_bytes level entries)) None puts q later
       ])
+      (λ q c. elim (both_cases x p.beside.nodes_one y p.beside.nodes_two q c) [
+        | inl first ↦ inl (subst (Contains (x ∷ p.new_nodes)) first (Contains-head x p.new_nodes))
+        | inr (inl second) ↦ inr (ap is' (sym second) ∙ puts.second)
+        | inr (inr below) ↦ elim (put_still was is is' level top bounds a one two b x y entries aim p free (Some (node_bytes level entries)) None puts q below) [ inl new ↦ inl (Contains-later x p.new_nodes q new) | inr none ↦ inr none ]
+      ])
+      (λ q c. Contains-later x p.new_nodes q c)
 
 -- Two adjacent children become one: the left one takes all entries, the right one goes, and the node above loses
 -- the entry that led there.

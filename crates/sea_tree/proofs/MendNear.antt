@@ -50,7 +50,7 @@ always Q (Some a) f = f a
 always Q None f = tt
 
 -- how many bytes come in
-put_leaf : (key : List ℕ) (value : Option (List ℕ)) → IsName key → IfSome value (λ v. length v ≤ 1024) → length (entry_put key value) ≤ 1091
+pub put_leaf : (key : List ℕ) (value : Option (List ℕ)) → IsName key → IfSome value (λ v. length v ≤ 1024) → length (entry_put key value) ≤ 1091
 put_leaf key (Some v) name short = omega (arith, length-entry_bytes (key, v), entry_size-leaf (key, v) name short)
 put_leaf key None name short = omega arith
 

@@ -1,5 +1,5 @@
 -- A node with too few entries goes together with a neighbour: what stands below the entries of both.
-use Rattle.std.proofs.Common.{◌≡◌, ◌⊎◌, ℕ, zero, suc, ◌≤◌, List, [], ◌∷◌, ◌++◌, length, Option, Some, refl, sym, ap, subst, ◌∙◌, inl, inr, arith, append_assoc}
+use Rattle.std.proofs.Common.{◌≡◌, ◌⊎◌, ℕ, zero, suc, ◌≤◌, List, [], ◌∷◌, ◌++◌, length, Option, Some, refl, sym, ap, subst, ◌∙◌, inl, inr, arith, append_assoc, None}
 use Rattle.std.specs.List.{All, Contains}
 use Rattle.std.proofs.lemmas.List.Elements.{All-head, All-tail, All-append, Contains-append_left, Contains-append_right, Contains-append_cases}
 use Rattle.sea_base.specs.Name.{IsName}
@@ -229,6 +229,8 @@ pub record Paired (was is : Store) (level top : ℕ) (bounds : Bounds) (a : List
   pub key_upper : IsWithin aim.key bounds.upper
   pub elsewhere : (q : ℕ) → (Contains (beside.nodes_one ++ beside.nodes_two) q → ⊥) → (IsGiven aim q → ⊥) → is q ≡ was q
   pub nodes : (q : ℕ) → Contains new_nodes q → Contains (beside.nodes_one ++ beside.nodes_two) q ⊎ IsGiven aim q
+  pub stays : (q : ℕ) → Contains (beside.nodes_one ++ beside.nodes_two) q → Contains new_nodes q ⊎ (is q ≡ None)
+  pub uses : (q : ℕ) → IsGiven aim q → Contains new_nodes q
 
 regroup : (p o m q : List Entry) → (p ++ (o ++ [])) ++ (m ++ q) ≡ p ++ (o ++ (m ++ q))
 regroup p o m q = append_assoc p (o ++ []) (m ++ q) ∙ ap (λ (r : List Entry). p ++ r) (append_assoc o [] (m ++ q))
@@ -257,6 +259,11 @@ module _ (was is : Store) (level top : ℕ) (bounds : Bounds) (pairs : List Entr
           | inl new ↦ elim (m.nodes q new) [ inl old ↦ inl (Contains-append_left m.old_nodes h.nodes q old) | inr given ↦ inr given ]
           | inr stays ↦ inl (Contains-append_right m.old_nodes h.nodes q stays)
         ];
+        stays = λ q c. elim (Contains-append_cases m.old_nodes h.nodes q c) [
+          | inl old ↦ elim (m.stays q old) [ inl new ↦ inl (Contains-append_left m.new_nodes h.nodes q new) | inr none ↦ inr none ]
+          | inr stays ↦ inl (Contains-append_right m.new_nodes h.nodes q stays)
+        ];
+        uses = λ q given. Contains-append_left m.new_nodes h.nodes q (m.uses q given);
       }
 
   -- The node in hand is the left one, and its right neighbour was read.
@@ -290,6 +297,11 @@ module _ (was is : Store) (level top : ℕ) (bounds : Bounds) (pairs : List Entr
           | inl stays ↦ inl (Contains-append_left h.nodes m.old_nodes q stays)
           | inr new ↦ elim (m.nodes q new) [ inl old ↦ inl (Contains-append_right h.nodes m.old_nodes q old) | inr given ↦ inr given ]
         ];
+        stays = λ q c. elim (Contains-append_cases h.nodes m.old_nodes q c) [
+          | inl stays ↦ inl (Contains-append_left h.nodes m.new_nodes q stays)
+          | inr old ↦ elim (m.stays q old) [ inl new ↦ inl (Contains-append_right h.nodes m.new_nodes q new) | inr none ↦ inr none ]
+        ];
+        uses = λ q given. Contains-append_right h.nodes m.new_nodes q (m.uses q given);
       }
 
   -- The node in hand is the right one, and its left neighbour was read.

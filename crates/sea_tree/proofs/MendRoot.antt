@@ -5,6 +5,7 @@ use Rattle.std.specs.List.{All, Contains}
 use Rattle.std.specs.FinMap as map
 use Rattle.std.specs.FinMap.{get-empty, same_map, find, len-empty, len-entries}
 use Rattle.std.specs.FinMap.Entries.{put}
+use Rattle.std.proofs.lemmas.Bool.{cases_eq}
 use Rattle.std.proofs.lemmas.List.{nil_from_length}
 use Rattle.std.proofs.lemmas.List.Elements.{All-nil, All-cons, Contains-append_left, Contains-append_right, Contains-append_cases}
 use Rattle.sea_base.specs.Field.{big_endian}
@@ -15,7 +16,7 @@ use Rattle.sea_node.specs.Entries.{Entry, Values, key_order, IsBelow, IsNotAbove
 use Rattle.sea_node.specs.Node.{IsNode, node_bytes}
 use Rattle.sea_node.proofs.Keys.{key_order_total, same_key, IsNotAbove-below, IsNotAbove-itself, IsRising-cons, IsRising-one, least_key}
 use Rattle.sea_node.proofs.Nodes.{size-cons, size-one, entry_size-leaf, entry_size-inner}
-use Rattle.sea_tree.specs.Tree.{NodeAt, root_bounds, IsWithin, IsInPlace, first_key, child_bounds, IsAddress}
+use Rattle.sea_tree.specs.Tree.{NodeAt, root_bounds, IsWithin, IsInPlace, first_key, child_bounds, IsAddress, IsNodeOf}
 use Rattle.sea_tree.specs.Content.{HasContent}
 use Rattle.sea_tree.specs.Does.{overlaid}
 use Rattle.sea_tree.specs.Subtrees.{AllBelow, Holds}
@@ -26,8 +27,8 @@ use Rattle.sea_tree.proofs.Contents.{get_found, insert_entries, only_empty, HasC
 use Rattle.sea_tree.proofs.Frames.{IsSameOn, AllBelow-one, Below-kept}
 use Rattle.sea_tree.proofs.Apart.{distinct-head, Holds-distinct}
 use Rattle.sea_tree.proofs.MendNear.{Halves, halves}
-use Rattle.sea_tree.proofs.MendSides.{overlaid-here, overlaid-other, PutsOne, PutsTwo, puts_two, puts_turned}
-use Rattle.sea_tree.proofs.MendSplit.{put_node, given_more, IsFree, mending_held, mending_filled, mending_new_apart, mending_new_fresh, TwoHeld, two_held}
+use Rattle.sea_tree.proofs.MendSides.{overlaid-here, overlaid-other, PutsOne, PutsTwo, puts_two, puts_turned, both, below_both, both_first, both_second}
+use Rattle.sea_tree.proofs.MendSplit.{put_node, given_more, IsFree, mending_held, mending_filled, mending_apart, mending_new_apart, mending_new_fresh, TwoHeld, two_held}
 use Rattle.sea_tree.proofs.Mending.{not_given, changed_from, entries_changed, pairs_of_content}
 
 -- ---- the root is split
@@ -136,6 +137,37 @@ module _ (was is is' : Store) (level root : ℕ) (before left right : List Entry
     ]
   ]
 
+  all_whole : (q : ℕ) → Contains (both aim.last two.nodes_a (aim.last + 1) two.nodes_b) q → Contains (root ∷ ((aim.last ∷ two.nodes_a) ++ (((aim.last + 1) ∷ two.nodes_b) ++ []))) q
+  all_whole q c = Contains-later root ((aim.last ∷ two.nodes_a) ++ (((aim.last + 1) ∷ two.nodes_b) ++ [])) q (subst (λ (l : List ℕ). Contains ((aim.last ∷ two.nodes_a) ++ l) q) (sym (append-nil ((aim.last + 1) ∷ two.nodes_b))) c)
+
+  all_two : (q : ℕ) → Contains m.new_nodes q → Contains (both aim.last two.nodes_a (aim.last + 1) two.nodes_b) q
+  all_two q c = below_both aim.last two.nodes_a (aim.last + 1) two.nodes_b q (subst (λ (l : List ℕ). Contains l q) two.nodes_are c)
+
+  not_old : (g q : ℕ) → IsGiven (given_more 2 aim) g → Contains m.old_nodes q → q ≢ g
+  not_old g q given later same = mending_filled was is level root root_bounds before (left ++ right) aim m q (Contains-later root m.old_nodes q later) (ap was same ∙ free g given)
+
+  stays_now : (q : ℕ) → Contains (root ∷ m.old_nodes) q → Contains (root ∷ ((aim.last ∷ two.nodes_a) ++ (((aim.last + 1) ∷ two.nodes_b) ++ []))) q ⊎ (is' q ≡ None)
+  stays_now q c = elim (Contains-cases root m.old_nodes q c) [
+    | inl same ↦ inl (subst (Contains (root ∷ ((aim.last ∷ two.nodes_a) ++ (((aim.last + 1) ∷ two.nodes_b) ++ [])))) same (Contains-head root ((aim.last ∷ two.nodes_a) ++ (((aim.last + 1) ∷ two.nodes_b) ++ []))))
+    | inr later ↦ elim (m.stays q later) [
+      | inl new ↦ inl (all_whole q (all_two q new))
+      | inr none ↦ inr (
+          puts.others q
+          (λ same. mending_apart was is level root root_bounds before (left ++ right) aim m (subst (Contains m.old_nodes) same later))
+          (not_old aim.last q given_first later)
+          (not_old (aim.last + 1) q given_second later) ∙ none)
+    ]
+  ]
+
+  uses_now : (q : ℕ) → IsGiven (given_more 2 aim) q → Contains (both aim.last two.nodes_a (aim.last + 1) two.nodes_b) q
+  uses_now q given = elim (cases_eq q aim.last) [
+    | inl same ↦ subst (Contains (both aim.last two.nodes_a (aim.last + 1) two.nodes_b)) (sym same) (both_first aim.last two.nodes_a (aim.last + 1) two.nodes_b)
+    | inr other ↦ elim (cases_eq q (aim.last + 1)) [
+      | inl same ↦ subst (Contains (both aim.last two.nodes_a (aim.last + 1) two.nodes_b)) (sym same) (both_second aim.last two.nodes_a (aim.last + 1) two.nodes_b)
+      | inr more ↦ all_two q (m.uses q (given.0, omega (arith, given.1, other, more)))
+    ]
+  ]
+
   pairs_now : two.pairs_a ++ (two.pairs_b ++ []) ≡ m.new_pairs
   pairs_now = ap (λ (r : List Entry). two.pairs_a ++ r) (append-nil two.pairs_b) ∙ sym two.pairs_are
 
@@ -158,6 +190,8 @@ module _ (was is is' : Store) (level root : ℕ) (before left right : List Entry
         (λ same. unknown (subst (IsGiven (given_more 2 aim)) (sym same) given_second))
         ∙ m.elsewhere q (λ c. out (Contains-later root m.old_nodes q c)) (λ given. unknown (given.0, omega (arith, given.1)));
     nodes = nodes_now;
+    stays = stays_now;
+    uses = λ q given. all_whole q (uses_now q given);
   }
 
 -- the three blocks as they are put, the root last
@@ -169,7 +203,7 @@ root_split_puts was is is' level root before after x y z aim m ordered free same
 
 -- ---- the root is left with one child
 
-module _ (was is is' : Store) (level root : ℕ) (before : List Entry) (key value : List ℕ) (child : ℕ) (aim : Aim) (m : Mending was is (suc level) root root_bounds before ((key, value) ∷ []) aim) (address : IsAddress value child) (free : IsFree was aim) (puts : PutsTwo is is' root (is child) child None) where
+module _ (was is is' : Store) (level root : ℕ) (before : List Entry) (key value : List ℕ) (child : ℕ) (aim : Aim) (m : Mending was is (suc level) root root_bounds before ((key, value) ∷ []) aim) (address : IsAddress value child) (free : IsFree was aim) (old_child : IsGiven aim child → ⊥) (puts : PutsTwo is is' root (is child) child None) where
   first_is : key ≡ 0 ∷ []
   first_is = (m.near.first (omega arith)).1
 
@@ -232,6 +266,23 @@ module _ (was is is' : Store) (level root : ℕ) (before : List Entry) (key valu
         | inr given ↦ inr given
       ]
     ];
+    stays = λ q c. elim (Contains-cases root m.old_nodes q c) [
+      | inl same ↦ inl (subst (Contains (root ∷ inner.others)) same (Contains-head root inner.others))
+      | inr later ↦ elim (m.stays q later) [
+        | inl new ↦ elim (Contains-cases child inner.others q (subst (λ (l : List ℕ). Contains l q) nodes_are new)) [
+          | inl same ↦ inr (ap is' (sym same) ∙ puts.second)
+          | inr below ↦ inl (Contains-later root inner.others q below)
+        ]
+        | inr none ↦ inr (elim (cases_eq q child) [
+          | inl same ↦ ap is' same ∙ puts.second
+          | inr other ↦ puts.others q (λ same. mending_apart was is (suc level) root root_bounds before ((key, value) ∷ []) aim m (subst (Contains m.old_nodes) same later)) other ∙ none
+        ])
+      ]
+    ];
+    uses = λ q given. elim (Contains-cases child inner.others q (subst (λ (l : List ℕ). Contains l q) nodes_are (m.uses q given))) [
+      | inl same ↦ absurd (old_child (subst (IsGiven aim) (sym same) given))
+      | inr below ↦ Contains-later root inner.others q below
+    ];
   }
 
 -- the child's address is not the root's
@@ -268,6 +319,18 @@ root_emptied was is is' root before aim content has m free puts =
     (subst (HasContent is' root) (sym (no_pairs (changed_content aim.key aim.value content) none)) (HasContent-empty is' root puts.here))
     (λ q other out apart. puts.others q other ∙ m.elsewhere q (λ c. out ((nodes_of_root was 0 root root_bounds m.old_pairs (root ∷ m.old_nodes) q held).0 (Contains-later root m.old_nodes q c))) (not_given aim.first aim.last q apart))
     (λ q node. absurd (no_node is' root q puts.here node))
+    (λ q was_there filled. absurd (elim was_there [
+      | inl same ↦ filled (ap is' same ∙ puts.here)
+      | inr (inl node) ↦ elim (Contains-cases root m.old_nodes q ((nodes_of_root was 0 root root_bounds m.old_pairs (root ∷ m.old_nodes) q held).1 node)) [
+        | inl same ↦ filled (ap is' (sym same) ∙ puts.here)
+        | inr later ↦ elim (m.stays q later) [
+          | inl new ↦ Contains-nil q (subst (λ (l : List ℕ). Contains l q) m.below_is.1 new)
+          | inr none ↦ filled (puts.others q (λ same. mending_apart was is 0 root root_bounds before [] aim m (subst (Contains m.old_nodes) same later)) ∙ none)
+        ]
+      ]
+      | inr (inr given) ↦ Contains-nil q (subst (λ (l : List ℕ). Contains l q) m.below_is.1 (m.uses q given))
+    ]))
+    (λ q from below. absurd (Contains-nil q (subst (λ (l : List ℕ). Contains l q) m.below_is.1 (m.uses q (from, below)))))
 
 -- its content has no pair then
 pub root_emptied_content : (was is : Store) (root : ℕ) (before : List Entry) (aim : Aim) (content : Values) → HasContent was root content → Mending was is 0 root root_bounds before [] aim → changed_content aim.key aim.value content ≡ map.empty
@@ -301,17 +364,23 @@ one_pair_place key value name =
     }
 
 -- A leaf with one pair is put at an empty root.
-pub planted : (was is : Store) (root first last : ℕ) (key value : List ℕ) (content : Values) → HasContent was root content → was root ≡ None → IsName key → length value ≤ 1024 → ((q : ℕ) → first ≤ q → q < last → was q ≡ None) → PutsOne was is root (Some (node_bytes 0 ((key, value) ∷ []))) → Changed was is root first last (map.insert content key value)
-planted was is root first last key value content has none name short free puts =
+pub planted : (was is : Store) (root first last : ℕ) (key value : List ℕ) (content : Values) → HasContent was root content → was root ≡ None → IsName key → length value ≤ 1024 → last ≤ first → PutsOne was is root (Some (node_bytes 0 ((key, value) ∷ []))) → Changed was is root first last (map.insert content key value)
+planted was is root first last key value content has none name short nothing puts =
     let pairs : List Entry = (key, value) ∷ [] in
     let holds : Holds is 0 root root_bounds pairs (root ∷ []) = Holds-node is 0 root root_bounds pairs pairs [] (put_node is 0 root root_bounds pairs puts.here (one_pair key value name short) (one_pair_place key value name)) (refl, refl) in
     let empty : content ≡ map.empty = only_empty was root content none has in
     let no_entries : map.entries (map.empty {X = List ℕ} {R = key_order}) ≡ [] = nil_from_length (map.entries (map.empty {X = List ℕ} {R = key_order})) (sym (len-entries (map.empty {X = List ℕ} {R = key_order})) ∙ len-empty key_order (List ℕ)) in
     let same : map.entries (map.insert content key value) ≡ pairs = insert_entries content key value ∙ ap (λ (c : Values). put key_order key value (map.entries c)) empty ∙ ap (put key_order key value) no_entries in
-    changed_from was is root first last (map.insert content key value) has.tree free
+    changed_from was is root first last (map.insert content key value) has.tree (λ q from below. absurd (omega (arith, from, below, nothing)))
     (HasContent-held is 0 root pairs (root ∷ []) (map.insert content key value) holds same)
     (λ q other out apart. puts.others q other)
     (λ q node. elim (Contains-cases root [] q ((nodes_of_root is 0 root root_bounds pairs (root ∷ []) q holds).1 node)) [
       | inl same ↦ inl (sym same)
       | inr later ↦ absurd (Contains-nil q later)
     ])
+    (λ q was_there filled. elim was_there [
+      | inl same ↦ subst (IsNodeOf is root) (sym same) ((nodes_of_root is 0 root root_bounds pairs (root ∷ []) root holds).0 (Contains-head root []))
+      | inr (inl node) ↦ absurd (no_node was root q none node)
+      | inr (inr given) ↦ absurd (omega (arith, given.0, given.1, nothing))
+    ])
+    (λ q from below. absurd (omega (arith, from, below, nothing)))

@@ -14,7 +14,7 @@ use Rattle.sea_tree.specs.Tree.{Bounds, IsWithin, next_key, child_bounds, IsAddr
 use Rattle.sea_tree.specs.Breaks.{HasNode}
 use Rattle.sea_tree.specs.Does.{Change, overlaid}
 use Rattle.sea_tree.specs.Subtrees.{AllBelow, Holds}
-use Rattle.sea_tree.proofs.Holding.{AreWithin, keys_below, AllBelow-pick, one_node}
+use Rattle.sea_tree.proofs.Holding.{AreWithin, keys_below, AllBelow-pick, one_node, Contains-head, Contains-later, Contains-cases}
 use Rattle.sea_tree.proofs.Frames.{IsSameOn, AllBelow-around}
 use Rattle.sea_tree.proofs.Apart.{AllBelow-distinct, AllBelow-filled, distinct-middle}
 use Rattle.sea_tree.proofs.MendNear.{All-left, All-right, before_below, below_all_next, within_all}
@@ -215,3 +215,28 @@ puts_two is is' a x b y apart same = record {
 
 pub puts_turned : {is is' : Store} {a : ℕ} {x : Option (List ℕ)} {b : ℕ} {y : Option (List ℕ)} → PutsTwo is is' a x b y → PutsTwo is is' b y a x
 puts_turned w = record { first = w.second; second = w.first; others = λ q not_b not_a. w.others q not_a not_b }
+
+-- ---- two nodes and those below them
+
+-- two addresses, each with those below it
+abbrev pub both : ℕ → List ℕ → ℕ → List ℕ → List ℕ
+both x n y k = (x ∷ n) ++ (y ∷ k)
+
+-- those below either are among all
+pub below_both : (x : ℕ) (n : List ℕ) (y : ℕ) (k : List ℕ) (q : ℕ) → Contains (n ++ k) q → Contains (both x n y k) q
+below_both x n y k q c = elim (Contains-append_cases n k q c) [
+  | inl first ↦ Contains-append_left (x ∷ n) (y ∷ k) q (Contains-later x n q first)
+  | inr later ↦ Contains-append_right (x ∷ n) (y ∷ k) q (Contains-later y k q later)
+]
+
+pub both_first : (x : ℕ) (n : List ℕ) (y : ℕ) (k : List ℕ) → Contains (both x n y k) x
+both_first x n y k = Contains-head x (n ++ (y ∷ k))
+
+pub both_second : (x : ℕ) (n : List ℕ) (y : ℕ) (k : List ℕ) → Contains (both x n y k) y
+both_second x n y k = Contains-append_right (x ∷ n) (y ∷ k) y (Contains-head y k)
+
+pub both_cases : (x : ℕ) (n : List ℕ) (y : ℕ) (k : List ℕ) (q : ℕ) → Contains (both x n y k) q → (x ≡ q) ⊎ ((y ≡ q) ⊎ Contains (n ++ k) q)
+both_cases x n y k q c = elim (Contains-append_cases (x ∷ n) (y ∷ k) q c) [
+  | inl front ↦ elim (Contains-cases x n q front) [ inl same ↦ inl same | inr later ↦ inr (inr (Contains-append_left n k q later)) ]
+  | inr back ↦ elim (Contains-cases y k q back) [ inl same ↦ inr (inl same) | inr later ↦ inr (inr (Contains-append_right n k q later)) ]
+]

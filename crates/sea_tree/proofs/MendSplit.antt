@@ -1,6 +1,7 @@
 -- A node whose entries are too many is split: its parent gains an entry.
 use Rattle.std.proofs.Common.{◌≡◌, ◌≢◌, ◌⊎◌, ℕ, zero, suc, ◌+◌, ◌<◌, ◌≤◌, ◌^◌, List, [], ◌∷◌, ◌++◌, length, Option, Some, None, refl, sym, ap, subst, ◌∙◌, inl, inr, arith, append_assoc}
 use Rattle.std.specs.List.{Contains}
+use Rattle.std.proofs.lemmas.Bool.{cases_eq}
 use Rattle.std.proofs.lemmas.List.Elements.{Contains-append_left, Contains-append_right, Contains-append_cases}
 use Rattle.sea_base.specs.Field.{big_endian}
 use Rattle.sea_base.specs.Space.{Store}
@@ -8,16 +9,16 @@ use Rattle.sea_base.proofs.Fields.{length-big_endian}
 use Rattle.sea_node.specs.Entries.{Entry, IsBelow, edited}
 use Rattle.sea_node.specs.Node.{IsNode, node_bytes}
 use Rattle.sea_node.proofs.Keys.{IsNotAbove-below}
-use Rattle.sea_tree.specs.Tree.{Bounds, IsInPlace, first_key, next_key, child_bounds, IsAddress}
+use Rattle.sea_tree.specs.Tree.{Bounds, IsInPlace, first_key, next_key, child_bounds, IsAddress, IsNodeOf, IsBelowNode}
 use Rattle.sea_tree.specs.Breaks.{HasNode}
 use Rattle.sea_tree.specs.Does.{overlaid}
 use Rattle.sea_tree.specs.Subtrees.{AllBelow, Holds, Below}
 use Rattle.sea_tree.specs.Mending.{IsNearPlace, Aim, IsGiven, Mending, IsPart}
-use Rattle.sea_tree.proofs.Holding.{Holds-node, AllBelow-split, Contains-head, Contains-later, Contains-cases}
+use Rattle.sea_tree.proofs.Holding.{Holds-node, nodes_of_root, AllBelow-split, Contains-head, Contains-later, Contains-cases}
 use Rattle.sea_tree.proofs.Frames.{IsSameOn, IsSameOn-left, IsSameOn-right, AllBelow-kept, AllBelow-one, AllBelow-around, Below-kept}
 use Rattle.sea_tree.proofs.Apart.{distinct-head, Holds-distinct, Holds-filled}
 use Rattle.sea_tree.proofs.MendNear.{IsNearPlace-edited, left_bounds, right_bounds, Halves, halves}
-use Rattle.sea_tree.proofs.MendSides.{edited_between, Sides, sides, sides_before, sides_below, sides_lower, sides_upper, sides_above, sides_whole, sides_kept, sides_pairs, Contains-other_middle, PutsTwo, puts_two, puts_turned}
+use Rattle.sea_tree.proofs.MendSides.{edited_between, Sides, sides, sides_before, sides_below, sides_lower, sides_upper, sides_above, sides_whole, sides_kept, sides_pairs, Contains-other_middle, Contains-middle, both, below_both, both_first, both_second, PutsTwo, puts_two, puts_turned}
 
 -- ---- the node in hand
 
@@ -61,6 +62,17 @@ module _ (was is : Store) (level at : ℕ) (bounds : Bounds) (before after : Lis
   -- its block isn't changed yet
   pub mending_same : IsFree was aim → is at ≡ was at
   mending_same free = m.elsewhere at mending_apart (λ given. mending_filled at (Contains-head at m.old_nodes) (free at given))
+
+-- the child of an entry that the node in hand had was filled
+pub mending_child_filled : (was is : Store) (level at : ℕ) (bounds : Bounds) (before after : List Entry) (aim : Aim) → Mending was is (suc level) at bounds before after aim → (entry : Entry) (child : ℕ) → Contains before entry → IsAddress entry.1 child → was child ≢ None
+mending_child_filled was is level at bounds before after aim m entry child among address none =
+    let held = mending_held was is (suc level) at bounds before after aim m in
+    let node : IsNodeOf was at child = (suc level, (before, m.node.0), inr (before, m.node.0, (entry, among, (child, address, at_top level)))) in
+    mending_filled was is (suc level) at bounds before after aim m child ((nodes_of_root was (suc level) at bounds m.old_pairs (at ∷ m.old_nodes) child held).1 node) none
+  where
+    at_top : (level : ℕ) → IsBelowNode was level child child
+    at_top zero = refl
+    at_top (suc level) = inl refl
 
 -- ---- two nodes of one
 
@@ -193,6 +205,30 @@ module _ (was is is' : Store) (level at top : ℕ) (bounds : Bounds) (a : List E
       Contains-other_middle s.nodes_a ((at ∷ two.nodes_a) ++ (aim.last ∷ two.nodes_b)) (at ∷ m.old_nodes) s.nodes_b q (IsGiven (given_more 1 aim) q) (among_two q)
       (subst (λ (l : List ℕ). Contains (s.nodes_a ++ l) q) (sym (append_assoc (at ∷ two.nodes_a) (aim.last ∷ two.nodes_b) s.nodes_b)) c)
 
+  all_two : (q : ℕ) → Contains m.new_nodes q → Contains (both at two.nodes_a aim.last two.nodes_b) q
+  all_two q c = below_both at two.nodes_a aim.last two.nodes_b q (subst (λ (l : List ℕ). Contains l q) two.nodes_are c)
+
+  stays_two : (q : ℕ) → Contains (at ∷ m.old_nodes) q → Contains (both at two.nodes_a aim.last two.nodes_b) q ⊎ (is' q ≡ None)
+  stays_two q c = elim (Contains-cases at m.old_nodes q c) [
+    | inl same ↦ inl (subst (Contains (both at two.nodes_a aim.last two.nodes_b)) same (both_first at two.nodes_a aim.last two.nodes_b))
+    | inr later ↦ elim (m.stays q later) [
+      | inl new ↦ inl (all_two q new)
+      | inr none ↦ inr (
+          puts.others q
+          (λ same. mending_apart was is level at (child_bounds e b bounds.upper) before (left ++ right) aim m (subst (Contains m.old_nodes) same later))
+          (λ same. mending_filled was is level at (child_bounds e b bounds.upper) before (left ++ right) aim m q (Contains-later at m.old_nodes q later) (ap was same ∙ free aim.last is_given)) ∙ none)
+    ]
+  ]
+
+  uses_two : (q : ℕ) → IsGiven (given_more 1 aim) q → Contains (both at two.nodes_a aim.last two.nodes_b) q
+  uses_two q given = elim (cases_eq q aim.last) [
+    | inl same ↦ subst (Contains (both at two.nodes_a aim.last two.nodes_b)) (sym same) (both_second at two.nodes_a aim.last two.nodes_b)
+    | inr other ↦ all_two q (m.uses q (given.0, omega (arith, given.1, other)))
+  ]
+
+  nodes_regrouped : s.nodes_a ++ (both at two.nodes_a aim.last two.nodes_b ++ s.nodes_b) ≡ s.nodes_a ++ ((at ∷ two.nodes_a) ++ ((aim.last ∷ two.nodes_b) ++ s.nodes_b))
+  nodes_regrouped = ap (λ (l : List ℕ). s.nodes_a ++ l) (append_assoc (at ∷ two.nodes_a) (aim.last ∷ two.nodes_b) s.nodes_b)
+
   split_sides : Mending was is' (suc level) top bounds (a ++ (e ∷ b)) (edited key (Some (big_endian 8 aim.last)) (a ++ (e ∷ b))) (given_more 1 aim)
   split_sides = record {
     old_pairs = s.pairs_a ++ (m.old_pairs ++ s.pairs_b);
@@ -208,6 +244,8 @@ module _ (was is is' : Store) (level at top : ℕ) (bounds : Bounds) (a : List E
     key_upper = sides_upper was level top bounds a e b s aim.key m.key_upper;
     elsewhere = λ q out unknown. elsewhere q (λ c. out (Contains-append_right s.nodes_a ((at ∷ m.old_nodes) ++ s.nodes_b) q (Contains-append_left (at ∷ m.old_nodes) s.nodes_b q c))) unknown;
     nodes = nodes_now;
+    stays = λ q c. subst (λ (l : List ℕ). Contains l q ⊎ (is' q ≡ None)) nodes_regrouped (Contains-other_middle s.nodes_a (at ∷ m.old_nodes) (both at two.nodes_a aim.last two.nodes_b) s.nodes_b q (is' q ≡ None) (stays_two q) c);
+    uses = λ q given. subst (λ (l : List ℕ). Contains l q) nodes_regrouped (Contains-middle s.nodes_a (both at two.nodes_a aim.last two.nodes_b) s.nodes_b q (uses_two q given));
   }
 
 -- A child is split: it keeps the left part of its entries, a fresh address takes the right part, and the parent

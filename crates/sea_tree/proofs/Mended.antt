@@ -11,12 +11,12 @@ use Rattle.sea_tree.specs.declared.fault.TreeFault.{TreeFault}
 use Rattle.sea_tree.specs.declared.fault.TreeFault.TheVariants.{Space, Broken}
 use Rattle.sea_tree.specs.declared.way.Step.{Step}
 use Rattle.sea_tree.specs.declared.way.Way.{Way}
-use Rattle.sea_tree.specs.Tree.{Bounds, root_bounds}
+use Rattle.sea_tree.specs.Tree.{Bounds, NodeAt, root_bounds}
 use Rattle.sea_tree.specs.Breaks.{HasNode, IsBroken, Child, BreaksBelow}
-use Rattle.sea_tree.specs.Calls.{IsChangeFault, IsRootSettleFault}
+use Rattle.sea_tree.specs.Calls.{IsPlanFault, IsRootSettleFault}
 use Rattle.sea_tree.specs.Does.{Change, Does}
 use Rattle.sea_tree.specs.Mending.{after_edit, IsNearPlace}
-use Rattle.sea_tree.specs.Changing.{IsPlanned, RootSettled}
+use Rattle.sea_tree.specs.Changing.{IsPlanned, TouchesOwn, RootSettled}
 use Rattle.sea_tree.specs.Place.{meant}
 use Rattle.sea_tree.specs.Settled.{IsNearChild, Settled, IsSettleFault}
 use Rattle.sea_tree.specs.Way.{Descends, ComesDown, IsKnownWay}
@@ -24,8 +24,7 @@ use Rattle.sea_tree.proofs.Doing.{Does-read, Does-known, Does-laid, Does-agrees}
 use Rattle.sea_tree.proofs.MendNear.{IsNearPlace-edited}
 use Rattle.sea_tree.proofs.Splits.{middle_within}
 use Rattle.sea_tree.proofs.Ways.{Descends-laid, HasNode-same, first_node}
-use Rattle.sea_tree.proofs.WaySteps.{cause_since}
-use Rattle.sea_tree.proofs.Climbs.{Climbs, climbs_begun, step_above, child_near, climbs_up, climbs_done, climbs_rooted}
+use Rattle.sea_tree.proofs.Climbs.{Climbs, climbs_begun, step_above, child_near, climbs_up, climbs_done, climbs_rooted, settled_own, rooted_own}
 
 -- the steps of a way are as many as the levels that it goes down
 descends_by : (s : Store) (level at : ℕ) (bounds : Bounds) (steps : List Step) (key : List ℕ) (n q : ℕ) (b : Bounds) → Descends s level at bounds steps key n q b → level ≡ length steps + n
@@ -49,14 +48,15 @@ begins begun root key value way sound name short known =
     )
 
 -- What a turn needs of its step.
-pub record Turn (step : Step) (level at : ℕ) (after : List Entry) : Type 0 where
+pub record Turn (now : Seen) (step : Step) (level at : ℕ) (after : List Entry) : Type 0 where
   pub parent : IsNode step.node.level step.node.entries
   pub level_is : step.node.level ≡ suc level
   pub within : step.index < length step.node.entries
   pub child : IsNearChild step level at after
+  pub known : IsKnown now at
 
 pub turns : (begun now : Seen) (root : ℕ) (key : List ℕ) (value : Option (List ℕ)) (steps init : List Step) (step : Step) (level at : ℕ) (entries after : List Entry) (changes : List Change) → steps ≡ init ++ step ∷ []
-    → Climbs begun now root key value steps level at entries after changes → Turn step level at after × IsNode level entries
+    → Climbs begun now root key value steps level at entries after changes → Turn now step level at after × NodeAt now.view at level entries
 turns begun now root key value steps init step level at entries after changes is climbs0 =
     let climbs : Climbs begun now root key value (init ++ step ∷ []) level at entries after changes = subst (λ (l : List Step). Climbs begun now root key value l level at entries after changes) is climbs0 in
     let above = step_above begun root key init step level at climbs.bounds entries climbs.down in
@@ -66,8 +66,9 @@ turns begun now root key value steps init step level at entries after changes is
         level_is = down.level_is;
         within = subst (λ (es : List Entry). step.index < length es) (sym down.split.split) (subst (λ (i : ℕ). i < length (down.before ++ down.entry ∷ down.after)) down.split.count (middle_within down.before down.after down.entry));
         child = child_near begun now root key value init step level at entries after changes climbs;
+        known = Does-known [] climbs.reads at climbs.down.known;
       },
-      climbs.down.node.0.spells.node,
+      (HasNode-same begun begun.view now.view (λ q k. sym (climbs.reads.view q (inr k))) level at climbs.bounds entries climbs.down.known climbs.down.node).0,
     )
 
 -- and what it comes to
@@ -88,6 +89,13 @@ ends begun now new root key value steps init step level at entries after changes
     let climbs : Climbs begun now root key value (init ++ step ∷ []) level at entries after changes = subst (λ (l : List Step). Climbs begun now root key value l level at entries after changes) is climbs0 in
     subst (IsPlanned root key value begun new) (sym plans) (climbs_done begun now new root key value init step level at entries after changes added sound small climbs settled goes)
 
+pub ends_own : (begun now new : Seen) (root : ℕ) (key : List ℕ) (value : Option (List ℕ)) (steps init : List Step) (step : Step) (level at : ℕ) (entries after : List Entry) (changes changes' added : List Change)
+    → IsSound begun → steps ≡ init ++ step ∷ [] → Climbs begun now root key value steps level at entries after changes → changes' ≡ added ++ changes → Settled level at after step now new added None → Does [] now new
+    → TouchesOwn root begun new changes'
+ends_own begun now new root key value steps init step level at entries after changes changes' added sound is climbs0 plans settled goes =
+    let climbs : Climbs begun now root key value (init ++ step ∷ []) level at entries after changes = subst (λ (l : List Step). Climbs begun now root key value l level at entries after changes) is climbs0 in
+    subst (TouchesOwn root begun new) (sym plans) (settled_own begun now new root key value init step level at entries after changes added None sound climbs settled goes)
+
 -- ---- at the root
 
 -- What settling the root needs.
@@ -95,6 +103,11 @@ pub record AtRoot (now : Seen) (root level at : ℕ) (entries after : List Entry
   pub known : IsKnown now root
   pub node : HasNode now.view level root root_bounds entries
   pub near : IsNearPlace level root_bounds after
+
+pub root_reached : (begun now : Seen) (root : ℕ) (key : List ℕ) (value : Option (List ℕ)) (steps : List Step) (level at : ℕ) (entries after : List Entry) (changes : List Change) → steps ≡ [] → Climbs begun now root key value steps level at entries after changes → at ≡ root
+root_reached begun now root key value steps level at entries after changes none climbs0 =
+    let climbs : Climbs begun now root key value [] level at entries after changes = subst (λ (l : List Step). Climbs begun now root key value l level at entries after changes) none climbs0 in
+    sym climbs.down.descent.1
 
 pub comes_to_root : (begun now : Seen) (root : ℕ) (key : List ℕ) (value : Option (List ℕ)) (steps : List Step) (level at : ℕ) (entries after : List Entry) (changes : List Change) → steps ≡ [] → Climbs begun now root key value steps level at entries after changes → AtRoot now root level at entries after
 comes_to_root begun now root key value steps level at entries after changes none climbs0 =
@@ -114,6 +127,12 @@ pub roots : (begun now new : Seen) (root : ℕ) (key : List ℕ) (value : Option
 roots begun now new root key value steps level at entries after changes changes' added small none climbs0 plans settled goes =
     let climbs : Climbs begun now root key value [] level at entries after changes = subst (λ (l : List Step). Climbs begun now root key value l level at entries after changes) none climbs0 in
     subst (IsPlanned root key value begun new) (sym plans) (climbs_rooted begun now new root key value level at entries after changes added small climbs settled goes)
+
+pub roots_own : (begun now new : Seen) (root : ℕ) (key : List ℕ) (value : Option (List ℕ)) (steps : List Step) (level at : ℕ) (entries after : List Entry) (changes changes' added : List Change) → IsSound begun → steps ≡ []
+    → Climbs begun now root key value steps level at entries after changes → changes' ≡ added ++ changes → RootSettled level root after now new changes added → Does [] now new → TouchesOwn root begun new changes'
+roots_own begun now new root key value steps level at entries after changes changes' added sound none climbs0 plans settled goes =
+    let climbs : Climbs begun now root key value [] level at entries after changes = subst (λ (l : List Step). Climbs begun now root key value l level at entries after changes) none climbs0 in
+    subst (TouchesOwn root begun new) (sym plans) (rooted_own begun now new root key value level at entries after changes added sound climbs settled goes)
 
 -- ---- faults
 
@@ -136,9 +155,9 @@ broken_beside s (suc level) at bounds (step ∷ steps) key n q b es front back c
     inr (step.node.entries, down.node, (down.before, down.after, d.0, d.1, record { entry = down.entry; split = down.split.split; address = down.address; bounds_are = down.below_is }, below))
 
 module _ (begun now new : Seen) (root : ℕ) (key : List ℕ) (value : Option (List ℕ)) (steps init : List Step) (step : Step) (level at : ℕ) (entries after : List Entry) (changes : List Change)
-    (sound : IsSound begun) (is : steps ≡ init ++ step ∷ []) (climbs0 : Climbs begun now root key value steps level at entries after changes) (before mid then : ℕ) (tells told : Bool) (later : before ≤ mid) (same : told ≡ tells) where
-  pub settle_fault : (fault : TreeFault) → IsSettleFault level step now new mid then told fault → IsChangeFault root begun new before then tells fault
-  settle_fault (Space fault) cause = cause_since before mid then tells told fault later same cause
+    (sound : IsSound begun) (is : steps ≡ init ++ step ∷ []) (climbs0 : Climbs begun now root key value steps level at entries after changes) where
+  pub settle_fault : (fault : TreeFault) → IsSettleFault level step now new fault → IsPlanFault root begun new fault
+  settle_fault (Space fault) cause = tt
   settle_fault (Broken broken) found = λ store agrees.
       let climbs : Climbs begun now root key value (init ++ step ∷ []) level at entries after changes = subst (λ (l : List Step). Climbs begun now root key value l level at entries after changes) is climbs0 in
       let above = step_above begun root key init step level at climbs.bounds entries climbs.down in
@@ -153,9 +172,9 @@ module _ (begun now new : Seen) (root : ℕ) (key : List ℕ) (value : Option (L
         inr (above.comes.top, (first.0, first.1), broken_beside (laid begun store) above.comes.top root root_bounds init key level step.at.0 above.asked step.node.entries found.1.0 found.1.1 broken.0 found.1.2 there.0 there.1 beside unread),
       )
 
-pub root_fault : (begun now new : Seen) (root before mid then : ℕ) (tells told : Bool) → Does [] begun now → before ≤ mid → told ≡ tells → (fault : TreeFault) → IsRootSettleFault root now new mid then told fault → IsChangeFault root begun new before then tells fault
-root_fault begun now new root before mid then tells told reads later same (Space fault) cause = cause_since before mid then tells told fault later same cause
-root_fault begun now new root before mid then tells told reads later same (Broken broken) found = λ store agrees.
+pub root_fault : (begun now new : Seen) (root : ℕ) → Does [] begun now → (fault : TreeFault) → IsRootSettleFault root now new fault → IsPlanFault root begun new fault
+root_fault begun now new root reads (Space fault) cause = tt
+root_fault begun now new root reads (Broken broken) found = λ store agrees.
     let full = found.1 store agrees in
     inr (found.0, (full.0, record { bytes = full.1.bytes; here = sym (Does-laid [] reads store root) ∙ full.1.here; spells = full.1.spells }, full.2))
 

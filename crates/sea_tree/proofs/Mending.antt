@@ -19,15 +19,15 @@ use Rattle.sea_tree.specs.Mending.{Aim, IsGiven, Mending, Replaced}
 use Rattle.sea_tree.proofs.Holding.{Holds-node, same_address, nodes_of_root, one_node, AllBelow-pick, Contains-head, Contains-later, Contains-cases}
 use Rattle.sea_tree.proofs.Contents.{one_content, pairs_as_entries, insert_entries, remove_entries, HasContent-from_sorted, HasContent-held}
 use Rattle.sea_tree.proofs.Frames.{IsSameOn, HasNode-kept, AllBelow-kept, AllBelow-around, Below-kept}
-use Rattle.sea_tree.proofs.Apart.{at_not_below, HasContent-beside}
+use Rattle.sea_tree.proofs.Apart.{at_not_below, HasContent-beside, few_levels}
 use Rattle.sea_tree.proofs.MendNear.{IsNearPlace-edited}
 use Rattle.sea_tree.proofs.MendSides.{Sides, sides, sides_lower, sides_upper, sides_whole, sides_kept, sides_pairs, Contains-other_middle, puts_one}
-use Rattle.sea_tree.proofs.MendSplit.{IsFree, put_node, mending_held, mending_new_apart, mending_same}
+use Rattle.sea_tree.proofs.MendSplit.{IsFree, put_node, mending_held, mending_apart, mending_new_apart, mending_same}
 
 -- ---- a leaf's entries are edited
 
-pub mending_begun : (was : Store) (at : ℕ) (bounds : Bounds) (before : List Entry) (aim : Aim) → HasNode was 0 at bounds before → IsName aim.key → IfSome aim.value (λ v. length v ≤ 1024) → IsNotAbove bounds.lower aim.key → IsWithin aim.key bounds.upper → Mending was was 0 at bounds before (edited aim.key aim.value before) aim
-mending_begun was at bounds before aim node name short lower upper = record {
+pub mending_begun : (was : Store) (at : ℕ) (bounds : Bounds) (before : List Entry) (aim : Aim) → HasNode was 0 at bounds before → IsName aim.key → IfSome aim.value (λ v. length v ≤ 1024) → IsNotAbove bounds.lower aim.key → IsWithin aim.key bounds.upper → aim.last ≤ aim.first → Mending was was 0 at bounds before (edited aim.key aim.value before) aim
+mending_begun was at bounds before aim node name short lower upper none = record {
   old_pairs = before;
   new_pairs = edited aim.key aim.value before;
   old_nodes = [];
@@ -41,6 +41,8 @@ mending_begun was at bounds before aim node name short lower upper = record {
   key_upper = upper;
   elsewhere = λ q out unknown. refl;
   nodes = λ q c. inl c;
+  stays = λ q c. inl c;
+  uses = λ q given. absurd (omega (arith, given.0, given.1, none));
 }
 
 -- ---- a node that fits is written
@@ -67,6 +69,14 @@ module _ (was is is' : Store) (level at : ℕ) (bounds : Bounds) (before after :
       | inl same ↦ inl (subst (Contains (at ∷ m.old_nodes)) same (Contains-head at m.old_nodes))
       | inr later ↦ elim (m.nodes q later) [ inl old ↦ inl (Contains-later at m.old_nodes q old) | inr given ↦ inr given ]
     ];
+    stays = λ q c. elim (Contains-cases at m.old_nodes q c) [
+      | inl same ↦ inl (subst (Contains (at ∷ m.new_nodes)) same (Contains-head at m.new_nodes))
+      | inr later ↦ elim (m.stays q later) [
+        | inl new ↦ inl (Contains-later at m.new_nodes q new)
+        | inr none ↦ inr (others q (λ same. mending_apart was is level at bounds before after aim m (subst (Contains m.old_nodes) same later)) ∙ none)
+      ]
+    ];
+    uses = λ q given. Contains-later at m.new_nodes q (m.uses q given);
   }
 
 -- The node in hand is written: where its entries are a node and enough, the change is made below its address.
@@ -136,6 +146,14 @@ module _ (was is : Store) (level at top : ℕ) (bounds : Bounds) (a : List Entry
         | inr given ↦ inr given
       ]
     ];
+    stays = λ q c. elim (Contains-cases top (s.nodes_a ++ (r.old_nodes ++ s.nodes_b)) q c) [
+      | inl same ↦ inl (subst (Contains (top ∷ (s.nodes_a ++ (r.new_nodes ++ s.nodes_b)))) same (Contains-head top (s.nodes_a ++ (r.new_nodes ++ s.nodes_b))))
+      | inr later ↦ elim (Contains-other_middle s.nodes_a r.old_nodes r.new_nodes s.nodes_b q (is q ≡ None) (r.stays q) later) [
+        | inl new ↦ inl (Contains-later top (s.nodes_a ++ (r.new_nodes ++ s.nodes_b)) q new)
+        | inr none ↦ inr none
+      ]
+    ];
+    uses = λ q given. Contains-later top (s.nodes_a ++ (r.new_nodes ++ s.nodes_b)) q (Contains-append_right s.nodes_a (r.new_nodes ++ s.nodes_b) q (Contains-append_left r.new_nodes s.nodes_b q (r.uses q given)));
   }
 
 -- Where the change is made in the subtree of a child, it is in that of its parent, which stays.
@@ -197,14 +215,16 @@ path_replaced was is (suc level) at bounds pairs nodes last_level last last_boun
 -- ---- the change is made
 
 pub becomes_changed : (store : Store) (root : ℕ) (old new : Seen) (after : Values) → Changed (laid old store) (laid new store) root old.next new.next after → Becomes store root old new after
-becomes_changed store root old new after c = record { content = c.content; elsewhere = c.elsewhere; nodes = c.nodes; others = c.others }
+becomes_changed store root old new after c = record { content = c.content; elsewhere = c.elsewhere; nodes = c.nodes; left = c.left; used = c.used; levels = λ level tree. few_levels (laid new store) level root root_bounds tree; others = c.others }
 
 -- other trees keep their content where nothing but the nodes of one, its root and what was given changes
-pub changed_from : (was is : Store) (root first last : ℕ) (after : Values) → IsTree was root → ((q : ℕ) → first ≤ q → q < last → was q ≡ None) → HasContent is root after → ((at : ℕ) → at ≢ root → (IsNodeOf was root at → ⊥) → (at < first) ⊎ (last ≤ at) → is at ≡ was at) → ((at : ℕ) → IsNodeOf is root at → (at ≡ root) ⊎ (IsNodeOf was root at ⊎ ((first ≤ at) × (at < last)))) → Changed was is root first last after
-changed_from was is root first last after tree free content elsewhere nodes = record {
+pub changed_from : (was is : Store) (root first last : ℕ) (after : Values) → IsTree was root → ((q : ℕ) → first ≤ q → q < last → was q ≡ None) → HasContent is root after → ((at : ℕ) → at ≢ root → (IsNodeOf was root at → ⊥) → (at < first) ⊎ (last ≤ at) → is at ≡ was at) → ((at : ℕ) → IsNodeOf is root at → (at ≡ root) ⊎ (IsNodeOf was root at ⊎ ((first ≤ at) × (at < last)))) → ((at : ℕ) → (at ≡ root) ⊎ (IsNodeOf was root at ⊎ ((first ≤ at) × (at < last))) → is at ≢ None → IsNodeOf is root at) → ((at : ℕ) → first ≤ at → at < last → IsNodeOf is root at) → Changed was is root first last after
+changed_from was is root first last after tree free content elsewhere nodes left used = record {
   content = content;
   elsewhere = elsewhere;
   nodes = nodes;
+  left = left;
+  used = used;
   others = λ other kept apart has none old. HasContent-beside was is root first last tree free elsewhere other kept has none apart old;
 }
 
@@ -222,6 +242,11 @@ pub not_given : (first last q : ℕ) → (q < first) ⊎ (last ≤ q) → (first
 not_given first last q (inl below) given = omega (arith, below, given.0)
 not_given first last q (inr past) given = omega (arith, past, given.1)
 
+-- the address of a subtree is among its nodes
+root_among : (store : Store) (level at : ℕ) (bounds : Bounds) (pairs : List Entry) (nodes : List ℕ) → Holds store level at bounds pairs nodes → Contains nodes at
+root_among store zero at bounds pairs nodes holds = subst (λ (l : List ℕ). Contains l at) (sym holds.3) (Contains-head at [])
+root_among store (suc level) at bounds pairs nodes holds = subst (λ (l : List ℕ). Contains l at) (sym holds.4) (Contains-head at holds.1)
+
 -- Where the change is made below the root, the tree has the new content.
 pub replaced_changed : (was is : Store) (level new_level root : ℕ) (aim : Aim) (content : Values) → HasContent was root content → Replaced was is level new_level root root_bounds aim → IsFree was aim → Changed was is root aim.first aim.last (changed_content aim.key aim.value content)
 replaced_changed was is level new_level root aim content has r free =
@@ -234,3 +259,12 @@ replaced_changed was is level new_level root aim content has r free =
       | inl old ↦ inr (inl ((nodes_of_root was level root root_bounds r.old_pairs r.old_nodes q r.holds_was).0 old))
       | inr given ↦ inr (inr given)
     ])
+    (λ q was_there filled. elim was_there [
+      | inl same ↦ subst (IsNodeOf is root) (sym same) ((nodes_of_root is new_level root root_bounds r.new_pairs r.new_nodes root r.holds_is).0 (root_among is new_level root root_bounds r.new_pairs r.new_nodes r.holds_is))
+      | inr (inl node) ↦ elim (r.stays q ((nodes_of_root was level root root_bounds r.old_pairs r.old_nodes q r.holds_was).1 node)) [
+        | inl new ↦ (nodes_of_root is new_level root root_bounds r.new_pairs r.new_nodes q r.holds_is).0 new
+        | inr none ↦ absurd (filled none)
+      ]
+      | inr (inr given) ↦ (nodes_of_root is new_level root root_bounds r.new_pairs r.new_nodes q r.holds_is).0 (r.uses q given)
+    ])
+    (λ q from below. (nodes_of_root is new_level root root_bounds r.new_pairs r.new_nodes q r.holds_is).0 (r.uses q (from, below)))

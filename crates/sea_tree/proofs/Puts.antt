@@ -14,36 +14,41 @@ use Rattle.sea_node.specs.Node.{node_bytes}
 use Rattle.sea_node.proofs.Keys.{key_order_total, same_key}
 use Rattle.sea_tree.specs.declared.fault.TreeFault.{TreeFault}
 use Rattle.sea_tree.specs.declared.fault.TreeFault.TheVariants.{Space, Broken}
-use Rattle.sea_tree.specs.Tree.{IsNodeOf}
+use Rattle.sea_tree.specs.Tree.{root_bounds, IsNodeOf}
 use Rattle.sea_tree.specs.Content.{HasContent}
 use Rattle.sea_tree.specs.Breaks.{Breaks, IsFull, FillsFewer}
-use Rattle.sea_tree.specs.Calls.{Meets, Becomes, IsWayFault, IsChangeFault, IsWholeWay, IsOfSpace}
-use Rattle.sea_tree.specs.Does.{Change, overlaid, Does, ChangesAtMost}
-use Rattle.sea_tree.specs.Changing.{Changed, changed_content, IsPlanned}
+use Rattle.sea_tree.specs.Calls.{Meets, Becomes, ChangesOwn, IsWayFault, IsChangeFault, IsPlanFault, IsUnchanged, IsWholeWay, IsOfSpace}
+use Rattle.sea_tree.specs.Does.{Change, overlaid, is_among, Does, ChangesAtMost}
+use Rattle.sea_tree.specs.Changing.{Changed, changed_content, IsPlanned, TouchesOwn}
+use Rattle.sea_tree.proofs.Apart.{IsNodeOf-root, few_levels}
 use Rattle.sea_tree.proofs.Counting.{full_refuted}
 use Rattle.sea_tree.proofs.Doing.{Does-agrees, Does-laid, overlaid-same, ChangesAtMost-read, ChangesAtMost-then}
 use Rattle.sea_tree.proofs.Holding.{whole_tree, breaks_from_way}
 use Rattle.sea_tree.proofs.MendRoot.{planted}
 use Rattle.sea_tree.proofs.MendSides.{puts_one}
 use Rattle.sea_tree.proofs.Mending.{becomes_changed}
+use Rattle.sea_tree.proofs.Touched.{either_true, among_one}
 use Rattle.sea_tree.proofs.Walks.{one_store}
-use Rattle.sea_tree.proofs.WaySteps.{cause_since}
 
 -- ---- faults
 
-pub way_fault : (root : ℕ) (key : List ℕ) (old new : Seen) (before now : ℕ) (tells : Bool) (fault : TreeFault) → IsWayFault root key old new before now tells fault → IsChangeFault root old new before now tells fault
-way_fault root key old new before now tells (Space fault) cause = cause
-way_fault root key old new before now tells (Broken at) found = λ store agrees. inl (breaks_from_way (laid old store) key root at.0 (found store agrees))
+pub way_fault : (root : ℕ) (key : List ℕ) (old new : Seen) (fault : TreeFault) → IsWayFault root key old new fault → IsChangeFault root key old new fault
+way_fault root key old new (Space fault) cause = tt
+way_fault root key old new (Broken at) found = inl found
 
-pub fault_since : (root : ℕ) (old mid new : Seen) (before then now : ℕ) (tells told : Bool) → OnlyRead old mid → before ≤ then → told ≡ tells → (fault : TreeFault) → IsChangeFault root mid new then now told fault → IsChangeFault root old new before now tells fault
-fault_since root old mid new before then now tells told reads later same (Space fault) cause = cause_since before then now tells told fault later same cause
-fault_since root old mid new before then now tells told reads later same (Broken at) found = λ store agrees.
-    subst (λ (s : Store). Breaks s root at.0 ⊎ ((at.0 ≡ root) × IsFull s root)) (one_store reads store) (found store agrees)
+pub fault_since : (root : ℕ) (key : List ℕ) (old mid new : Seen) → OnlyRead old mid → IsWholeWay root key old mid → (fault : TreeFault) → IsUnchanged mid new fault → IsPlanFault root mid new fault → IsChangeFault root key old new fault
+fault_since root key old mid new reads whole (Space fault) same cause = tt
+fault_since root key old mid new reads whole (Broken at) same found = inr (
+  (λ store q agrees. whole store q (Does-agrees [] same store agrees)),
+  (λ store agrees. subst (λ (s : Store). Breaks s root at.0 ⊎ ((at.0 ≡ root) × IsFull s root)) (one_store reads store) (found store agrees)),
+)
 
 -- a tree that is well formed on fewer than 2^25 filled addresses gives a fault of the space alone
-pub of_space : (root : ℕ) (old new : Seen) (before now : ℕ) (tells : Bool) (fault : TreeFault) → IsChangeFault root old new before now tells fault → (store : Store) (content : Values) → Meets store root old new content → FillsFewer (laid old store) (2 ^ 25) → IsOfSpace fault
-of_space root old new before now tells (Space fault) cause store content meets few = tt
-of_space root old new before now tells (Broken at) found store content meets few = by (found store meets.agrees)
+pub of_space : (root : ℕ) (key : List ℕ) (old new : Seen) (fault : TreeFault) → IsChangeFault root key old new fault → (store : Store) (content : Values) → Meets store root old new content → FillsFewer (laid old store) (2 ^ 25) → IsOfSpace fault
+of_space root key old new (Space fault) cause store content meets few = tt
+of_space root key old new (Broken at) (inl breaks) store content meets few =
+    absurd (whole_tree (laid old store) root at.0 meets.content.tree (breaks_from_way (laid old store) key root at.0 (breaks store meets.agrees)))
+of_space root key old new (Broken at) (inr found) store content meets few = by (found.1 store meets.agrees)
   where
     by : Breaks (laid old store) root at.0 ⊎ ((at.0 ≡ root) × IsFull (laid old store) root) → ⊥
     by (inl breaks) = whole_tree (laid old store) root at.0 meets.content.tree breaks
@@ -79,8 +84,23 @@ run_becomes root key value old mid planned new changes run plans store content m
 pub plants : (root : ℕ) (key value : List ℕ) (mid : Seen) (changes : List Change) → IsSound mid → IsKnown mid root → mid.view root ≡ None → IsName key → length value ≤ 1024 → changes ≡ (root, Some (node_bytes 0 ((key, value) ∷ []))) ∷ [] → IsPlanned root key (Some value) mid mid changes
 plants root key value mid changes sound known none name short planned_is store before meets =
     let empty : laid mid store root ≡ None = laid_known mid store sound meets.agrees root known ∙ none in
-    planted (laid mid store) (overlaid changes (laid mid store)) root mid.next mid.next key value before meets.content empty name short (λ q from below. absurd (omega (arith, from, below)))
+    planted (laid mid store) (overlaid changes (laid mid store)) root mid.next mid.next key value before meets.content empty name short (omega arith)
     (puts_one (laid mid store) (overlaid changes (laid mid store)) root (Some (node_bytes 0 ((key, value) ∷ []))) (λ q. ap (λ (cs : List Change). overlaid cs (laid mid store) q) planned_is))
+
+pub run_touches : (root : ℕ) (old mid planned new : Seen) (changes : List Change) → Run old mid planned new changes → TouchesOwn root mid planned changes → ChangesOwn root old new
+run_touches root old mid planned new changes run own store at agrees changed =
+    elim (either_true (is_among changes at) (planned.changed at) (sym (run.writes.changed at) ∙ changed)) [
+      | inl among ↦ elim (own store at (Does-agrees changes run.writes store agrees) among) [
+        | inl same ↦ inr (inl same)
+        | inr (inl node) ↦ inr (inr (inl (subst (λ (s : Store). IsNodeOf s root at) (one_store run.reads store) node)))
+        | inr (inr given) ↦ inr (inr (inr (omega (arith, given.0, run.reads.next), omega (arith, given.1, run.next))))
+      ]
+      | inr before ↦ inl (sym (run.plans.changed at ∙ run.reads.changed at) ∙ before)
+    ]
+
+-- the first pair writes the root alone
+pub plants_own : (root : ℕ) (old new : Seen) (changes : List Change) (block : Option (List ℕ)) → changes ≡ (root, block) ∷ [] → TouchesOwn root old new changes
+plants_own root old new changes block is store q agrees e = inl (among_one is q e)
 
 -- Where the key is absent nothing changes.
 pub nothing_changes : (root : ℕ) (key : List ℕ) (old new : Seen) → OnlyRead old new → (store : Store) (content : Values) → Meets store root old new content → map.get content key ≡ None → Becomes store root old new (map.remove content key)
@@ -91,6 +111,13 @@ nothing_changes root key old new reads store content meets absent =
       content = subst (λ (c : Values). HasContent (laid new store) root c) content_same (subst (λ (s : Store). HasContent s root content) (sym same) meets.content);
       elsewhere = λ at other outside apart. ap (λ (s : Store). s at) same;
       nodes = λ at node. inr (inl (subst (λ (s : Store). IsNodeOf s root at) same node));
+      left = λ at was_there filled. subst (λ (s : Store). IsNodeOf s root at) (sym same) (elim was_there [
+        | inl is_root ↦ subst (IsNodeOf (laid old store) root) (sym is_root) (IsNodeOf-root (laid old store) root meets.content.tree (λ none. filled (ap (λ (s : Store). s at) same ∙ ap (laid old store) is_root ∙ none)))
+        | inr (inl node) ↦ node
+        | inr (inr given) ↦ absurd (omega (arith, given.0, given.1, reads.next))
+      ]);
+      used = λ at from below. absurd (omega (arith, from, below, reads.next));
+      levels = λ level tree. few_levels (laid new store) level root root_bounds tree;
       others = λ other kept_content differs has apart old_root. subst (λ (s : Store). HasContent s other kept_content) (sym same) has;
     }
   where

@@ -11,13 +11,15 @@ use Rattle.sea_node.specs.declared.node.Node.{Node}
 use Rattle.sea_node.specs.Entries.{Entry, size}
 use Rattle.sea_node.specs.Node.{IsNode, node_bytes}
 use Rattle.sea_tree.specs.declared.plan.Write.{Write}
-use Rattle.sea_tree.specs.Tree.{root_bounds, IsAddress}
+use Rattle.sea_tree.specs.Tree.{NodeAt, root_bounds, IsAddress}
+use Rattle.sea_tree.specs.Breaks.{HasNode, IsFull}
 use Rattle.sea_tree.specs.Mending.{IsNearPlace}
 use Rattle.sea_tree.specs.Settled.{AreHalves}
 use Rattle.sea_tree.specs.Changing.{root_entries, RootSplits, RootSinks, RootSettled}
 use Rattle.sea_tree.specs.Does.{Change, overlaid, is_among}
-use Rattle.sea_tree.specs.Plan.{change_of, changes_of}
-use Rattle.sea_tree.proofs.Doing.{overlaid-apart}
+use Rattle.sea_tree.specs.declared.splice.Splice.{Splice}
+use Rattle.sea_tree.specs.Plan.{change_of, changes_of, spliced_before}
+use Rattle.sea_tree.proofs.Doing.{overlaid-apart, is_among-append}
 use Rattle.sea_tree.proofs.MendNear.{halves, IsNode-near}
 use Rattle.sea_tree.proofs.MendRoot.{IsNode-root}
 
@@ -45,6 +47,37 @@ module _ (at : ℕ) where
         | true ↦ λ e. e
         | false ↦ λ e. passes_more writes n w (omega arith) is apart e
       ] passes
+
+  -- one of them is
+  among_found : (writes : List Write) (n : ℕ) (w : Write) → n < length writes → w ≡ get_or writes n w → (at == (change_of w).0) ≡ true → is_among (map change_of writes) at ≡ true
+  among_found [] n w within is here = absurd (omega arith)
+  among_found (x ∷ writes) zero w within is here =
+      ap (λ (v : Write). at == (change_of v).0 || is_among (map change_of writes) at) (sym is) ∙ ap (λ (b : Bool). b || is_among (map change_of writes) at) here
+  among_found (x ∷ writes) (suc n) w within is here =
+      elim (at == (change_of x).0) as (λ b. (b || is_among (map change_of writes) at) ≡ true) [
+        | true ↦ refl
+        | false ↦ among_found writes n w (omega arith) is here
+      ]
+
+  among_reversed : (changes : List Change) → is_among (reverse changes) at ≡ is_among changes at
+  among_reversed [] = refl
+  among_reversed (c ∷ changes) =
+      ap (λ (cs : List Change). is_among cs at) (reverse-append (c ∷ []) changes)
+      ∙ is_among-append (reverse changes) (c ∷ []) at
+      ∙ ap (λ (b : Bool). b || (at == c.0 || false)) (among_reversed changes)
+      ∙ swapped (at == c.0) (is_among changes at)
+    where
+      swapped : (a b : Bool) → (b || (a || false)) ≡ (a || b)
+      swapped true true = refl
+      swapped true false = refl
+      swapped false true = refl
+      swapped false false = refl
+
+  pub is_planned_found : (writes : List Write) (n : ℕ) (w : Write) → n < length writes → w ≡ get_or writes n w → (at == (change_of w).0) ≡ true → is_among (changes_of writes) at ≡ true
+  is_planned_found writes n w within is here = among_reversed (map change_of writes) ∙ among_found writes n w within is here
+
+  pub is_planned_none : (writes : List Write) (n : ℕ) → length writes ≤ n → Passes writes n → is_among (changes_of writes) at ≡ false
+  is_planned_none writes n all passes = among_reversed (map change_of writes) ∙ ap (λ (ws : List Write). is_among (map change_of ws) at) (sym (take_all n writes all)) ∙ passes
 
   module _ (store : Store) where
     stands : (writes : List Write) (n : ℕ) (w : Write) → n < length writes → w ≡ get_or writes n w → (at == (change_of w).0) ≡ true → Passes writes n → overlaid (map change_of writes) store at ≡ (change_of w).1
@@ -118,8 +151,8 @@ module _ (level root : ℕ) (entries : List Entry) (near : IsNearPlace level roo
         let node = IsNode-root level first back.entries low parts.name parts.above in
         subst (λ (l : ℕ). IsNode l over) (sym (add-one level)) (subst (IsNode (suc level)) (sym is_over) node)
 
-    pub root_splits : (old new : Seen) (before one two three : List Change) → first ≡ old.next → new.next ≡ old.next + 2 → one ≡ (first, Some (node_bytes front.level front.entries)) ∷ before → two ≡ (first + 1, Some (node_bytes back.level back.entries)) ∷ one → three ≡ (root, Some (node_bytes (level + 1) over)) ∷ two → Planned before three (RootSplits level root entries old new)
-    root_splits old new before one two three is_first next is_one is_two is_three =
+    pub root_splits : (old new : Seen) (before one two three : List Change) → 4064 < size entries → first ≡ old.next → new.next ≡ old.next + 2 → one ≡ (first, Some (node_bytes front.level front.entries)) ∷ before → two ≡ (first + 1, Some (node_bytes back.level back.entries)) ∷ one → three ≡ (root, Some (node_bytes (level + 1) over)) ∷ two → Planned before three (RootSplits level root entries old new)
+    root_splits old new before one two three large is_first next is_one is_two is_three =
         let whole : over ≡ root_entries old.next back.entries = is_over ∙ ap (λ (n : ℕ). root_entries n back.entries) is_first in (
           (root, Some (node_bytes (level + 1) over)) ∷ (first + 1, Some (node_bytes back.level back.entries)) ∷ (first, Some (node_bytes front.level front.entries)) ∷ [],
           is_three ∙ ap (λ (cs : List Change). (root, Some (node_bytes (level + 1) over)) ∷ cs) (is_two ∙ ap (λ (cs : List Change). (first + 1, Some (node_bytes back.level back.entries)) ∷ cs) is_one),
@@ -127,7 +160,9 @@ module _ (level root : ℕ) (entries : List Entry) (near : IsNearPlace level roo
             front = front.entries;
             back = back.entries;
             low = low;
+            large = large;
             cut = are.cut;
+            is_cut = are.is_cut;
             front_part = are.front_part;
             back_part = are.back_part;
             planned = λ j. (root, Some (node_bytes (add-one level j) (whole j))) ∷ (is_first j + 1, Some (node_bytes (are.back_level j) back.entries)) ∷ (is_first j, Some (node_bytes (are.front_level j) front.entries)) ∷ [];
@@ -156,3 +191,16 @@ root_sinks (suc below) root (only ∷ []) first child block old new before one t
   },
 )
 root_sinks (suc below) root (only ∷ another ∷ rest) first child block old new before one two above alone address stands is_one is_two next = absurd (omega arith)
+
+-- A plan without a splice settles the root as its writes do.
+pub settled_whole : (s : Option Splice) (level root : ℕ) (entries : List Entry) (old new : Seen) (before after : List Change) → s ≡ None
+    → (changes : List Change) × (after ≡ changes ++ before) × RootSettled level root entries old new before changes
+    → (changes : List Change) × (spliced_before s after ≡ changes ++ spliced_before s before) × RootSettled level root entries old new (spliced_before s before) changes
+settled_whole s level root entries old new before after none done =
+    subst (λ (o : Option Splice). (changes : List Change) × (spliced_before o after ≡ changes ++ spliced_before o before) × RootSettled level root entries old new (spliced_before o before) changes) (sym none) done
+
+-- a root of the highest level with too many entries can't grow
+pub root_full : (seen : Seen) (level root : ℕ) (entries : List Entry) → IsSound seen → IsKnown seen root → HasNode seen.view level root root_bounds entries → level ≡ 7 → 3989 < size entries → (store : Store) → Agrees store seen → IsFull (laid seen store) root
+root_full seen level root entries sound known has seven large store agrees =
+    let node = subst (λ (l : ℕ). NodeAt seen.view root l entries) seven has.0 in
+    (entries, record { bytes = node.bytes; here = laid_known seen store sound agrees root known ∙ node.here; spells = node.spells }, large)

@@ -1,5 +1,5 @@
 -- Settling a node: parts of its entries, and a neighbour that is read.
-use Rattle.std.proofs.Common.{◌≡◌, inl, inr, ℕ, zero, suc, ◌+◌, ◌-◌, ◌<◌, ◌≤◌, Bool, List, [], ◌∷◌, ◌++◌, length, get_or, take, drop, Option, Some, None, refl, sym, ap, subst, ◌∙◌, arith, append_assoc, length-append, take-append-drop}
+use Rattle.std.proofs.Common.{◌≡◌, inl, inr, ℕ, zero, suc, ◌+◌, ◌-◌, ◌<◌, ◌≤◌, Bool, List, [], ◌∷◌, ◌++◌, length, get_or, take, drop, Option, Some, None, refl, sym, ap, subst, ◌∙◌, arith, append_assoc, length-append, length-take, take-append-drop}
 use Rattle.std.specs.List.{All, AllByRecursion}
 use Rattle.std.proofs.lemmas.List.Elements.{All-append, recursion_from_All}
 use Rattle.sea_base.specs.Field.{big_endian}
@@ -43,6 +43,7 @@ cut_halves level bounds es k front back near large cut front_level back_level is
     let both = halves level bounds (take k es) (drop k es) (subst (IsNearPlace level bounds) (sym (take-append-drop k es)) near) (parts.0, parts.1) (parts.2, parts.3) in
     record {
       cut = sym (take-append-drop k es) ∙ (λ j. sym is_front j ++ sym is_back j);
+      is_cut = subst (IsCut es) (let within : k < length es = cut.rest in omega (arith, length-take k es, within, ap length is_front)) cut;
       front_level = front_level;
       back_level = back_level;
       front_node = subst (IsNode level) (sym is_front) both.left_node;
@@ -56,16 +57,18 @@ first_is [] e filled at = absurd (omega arith)
 first_is (f ∷ es) e filled at = sym (ap (λ (x : Entry). x.0) at)
 
 -- what a split plans
-pub split_settled : (level at : ℕ) (entries : List Entry) (old new : Seen) (before mid after : List Change) (front back : Node) (fresh : ℕ) (key value : List ℕ) (e : Entry) → AreHalves level entries front back → fresh ≡ old.next → new.next ≡ old.next + 1
+pub split_settled : (level at : ℕ) (entries : List Entry) (old new : Seen) (before mid after : List Change) (front back : Node) (fresh : ℕ) (key value : List ℕ) (e : Entry) → 4064 < size entries → AreHalves level entries front back → fresh ≡ old.next → new.next ≡ old.next + 1
     → mid ≡ (at, Some (node_bytes front.level front.entries)) ∷ before → after ≡ (fresh, Some (node_bytes back.level back.entries)) ∷ mid → e ≡ get_or back.entries 0 e → key ≡ e.0 → value ≡ big_endian 8 fresh
     → (changes : List Change) × (after ≡ changes ++ before) × SplitsInTwo level at entries old new changes (Some (Pair key (Some value)))
-split_settled level at entries old new before mid after front back fresh key value e are is_fresh next first second at_e is_key is_value = (
+split_settled level at entries old new before mid after front back fresh key value e large are is_fresh next first second at_e is_key is_value = (
   (fresh, Some (node_bytes back.level back.entries)) ∷ (at, Some (node_bytes front.level front.entries)) ∷ [],
   second ∙ ap (λ (cs : List Change). (fresh, Some (node_bytes back.level back.entries)) ∷ cs) first,
   record {
     front = front.entries;
     back = back.entries;
+    large = large;
     cut = are.cut;
+    is_cut = are.is_cut;
     front_part = are.front_part;
     back_part = are.back_part;
     planned = λ j. (is_fresh j, Some (node_bytes (are.back_level j) back.entries)) ∷ (at, Some (node_bytes (are.front_level j) front.entries)) ∷ [];
@@ -206,12 +209,12 @@ child_broken old new parent index level at bounds within address asks reads soun
     (reads, (a.before, a.after, bounds, child, λ store agrees. IsBroken-same new new.view (laid old store) (laid_same old new store reads sound agrees) level at bounds known broken))
 
 -- so the fault that a read of it met says why a node was not settled
-pub settle_fault : (old new : Seen) (parent : Step) (index level at : ℕ) (bounds : Bounds) (before now : ℕ) (tells : Bool) (fault : TreeFault) → index < length parent.node.entries
+pub settle_fault : (old new : Seen) (parent : Step) (index level at : ℕ) (bounds : Bounds) (fault : TreeFault) → index < length parent.node.entries
     → ((before after : List Entry) (entry : Entry) → Splits parent.node.entries index before entry after → IsAddress entry.1 at)
     → ((before after : List Entry) (entry : Entry) → Splits parent.node.entries index before entry after → bounds ≡ child_bounds entry after parent.upper)
-    → OnlyRead old new → IsSound new → IsPlaceFault level at bounds new before now tells fault → IsSettleFault level parent old new before now tells fault
-settle_fault old new parent index level at bounds before now tells (Space fault) within address asks reads sound h = h
-settle_fault old new parent index level at bounds before now tells (Broken q) within address asks reads sound h =
+    → OnlyRead old new → IsSound new → IsPlaceFault level at bounds new fault → IsSettleFault level parent old new fault
+settle_fault old new parent index level at bounds (Space fault) within address asks reads sound h = tt
+settle_fault old new parent index level at bounds (Broken q) within address asks reads sound h =
     subst (λ (a : ℕ). OnlyRead old new × ((front : List Entry) × (back : List Entry) × (b : Bounds) × Child parent.node.entries parent.upper front back a b × ((store : Store) → Agrees store new → IsBroken (laid old store) level a b))) (sym h.0)
     (child_broken old new parent index level at bounds within address asks reads sound h.1 h.2)
 
@@ -230,6 +233,7 @@ module _ (level at : ℕ) (es : List Entry) (parent : Step) (old new : Seen) (he
       let below : IsBelow t.one.0 t.two.0 = rising_two parent.node.entries parent.index t rising in
       let all = joined_near level t.one t.two t.after parent.upper es fs below mine.1 (near_from_node level (child_bounds t.two t.after parent.upper) fs node place) (omega (arith, node.fits)) in
       record {
+        thin = small;
         pair = record {
           before = t.before;
           one = t.one;
@@ -279,6 +283,7 @@ module _ (level at : ℕ) (es : List Entry) (parent : Step) (old new : Seen) (he
       let below : IsBelow t.one.0 t.two.0 = rising_two parent.node.entries i t rising in
       let all = joined_near level t.one t.two t.after parent.upper fs es below (near_from_node level (child_bounds t.one (t.two ∷ t.after) parent.upper) fs node place) mine.1 (omega (arith, node.fits)) in
       record {
+        thin = small;
         pair = record {
           before = t.before;
           one = t.one;
@@ -313,6 +318,7 @@ module _ (level at : ℕ) (es : List Entry) (parent : Step) (old new : Seen) (he
     (held.right.0, None) ∷ (held.left.0, Some (node_bytes held.both.level held.both.entries)) ∷ [],
     joined.planned,
     record {
+      thin = are.thin;
       pair = are.pair;
       room = omega (arith, ap size are.both, joined.room);
       planned = λ j. (sym are.right j, None) ∷ (sym are.left j, Some (node_bytes (are.level_is j) (sym are.both j))) ∷ [];
@@ -326,10 +332,13 @@ module _ (level at : ℕ) (es : List Entry) (parent : Step) (old new : Seen) (he
     (held.right.0, Some (node_bytes held.both.level cut.back)) ∷ (held.left.0, Some (node_bytes held.both.level cut.front)) ∷ [],
     cut.planned,
     record {
+      thin = are.thin;
       pair = are.pair;
+      large = omega (arith, ap size are.both, cut.large);
       front = cut.front;
       back = cut.back;
       cut = are.both ∙ cut.cut;
+      is_cut = subst (λ (es : List Entry). IsCut es (length cut.front)) (sym are.both) cut.is_cut;
       front_part = cut.front_part;
       back_part = cut.back_part;
       planned = λ j. (sym are.right j, Some (node_bytes (are.level_is j) cut.back)) ∷ (sym are.left j, Some (node_bytes (are.level_is j) cut.front)) ∷ [];

@@ -17,13 +17,12 @@ use Rattle.sea_tree.specs.declared.way.Way.{Way}
 use Rattle.sea_tree.specs.Tree.{Bounds, root_bounds, IsWithin, LiesWithin}
 use Rattle.sea_tree.specs.Content.{HasContent}
 use Rattle.sea_tree.specs.Breaks.{Breaks}
-use Rattle.sea_tree.specs.Calls.{pairs_above, IsRangeFault}
+use Rattle.sea_tree.specs.Calls.{pairs_above}
 use Rattle.sea_tree.specs.Place.{meant}
 use Rattle.sea_tree.specs.Way.{IsKnownWay}
 use Rattle.sea_tree.specs.Range.{is_above, entries_above, pairs_upto, BeginsBelow, IsNextWay}
 use Rattle.sea_tree.proofs.Apart.{IsWithin-below}
 use Rattle.sea_tree.proofs.Ways.{IsKnownWay-later, first_node, leads_name, next_lower}
-use Rattle.sea_tree.proofs.WaySteps.{cause_since}
 use Rattle.sea_tree.proofs.Leaves.{known_find, known_empty}
 use Rattle.sea_tree.proofs.Ranges.{upto_leaf, none_upto, no_pairs, above_is}
 
@@ -51,13 +50,6 @@ next_found mid new root key u way (Some next) reads known upper further = next_w
 pub none_found : (mid new : Seen) (root : ℕ) (key : List ℕ) (way : Way) (found : Option Way) → OnlyRead mid new → IsKnownWay mid root key way → IfNone found (new.view root ≡ None) → IfNone found (way.bounds.upper ≡ None)
 none_found mid new root key way None reads known none = absurd (not_empty mid new root key way reads known none)
 none_found mid new root key way (Some next) reads known none = tt
-
--- a fault since an earlier moment
-pub range_since : (old mid new : Seen) (root before between now : ℕ) (tells told : Bool) (fault : TreeFault) → OnlyRead old mid → before ≤ between → told ≡ tells → IsRangeFault root mid new between now told fault → IsRangeFault root old new before now tells fault
-range_since old mid new root before between now tells told (Space fault) reads le same cause = cause_since before between now tells told fault le same cause
-range_since old mid new root before between now tells told (Broken at) reads le same breaks = λ store agrees.
-    let one : laid mid store ≡ laid old store = λ i q. laid-only_read reads store q i in
-    subst (λ (s : Store). Breaks s root at.0) one (breaks store agrees)
 
 -- ---- what a leaf adds
 

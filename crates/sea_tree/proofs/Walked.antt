@@ -1,11 +1,11 @@
 -- What a walk of a whole tree tells, and what dropping each node leaves.
-use Rattle.std.proofs.Common.{◌≡◌, ◌≢◌, inl, inr, ⊎_elim, ℕ, ◌+◌, ◌-◌, ◌^◌, ◌<◌, ◌≤◌, Bool, List, [], ◌∷◌, ◌++◌, length, take, get_or, map as map_list, min, Option, Some, None, refl, sym, ap, subst, ◌∙◌, arith, add-one}
+use Rattle.std.proofs.Common.{◌≡◌, ◌≢◌, ◌⊎◌, inl, inr, ⊎_elim, ℕ, ◌+◌, ◌-◌, ◌^◌, ◌<◌, ◌≤◌, Bool, List, [], ◌∷◌, ◌++◌, length, take, get_or, map as map_list, min, Option, Some, None, refl, sym, ap, subst, ◌∙◌, arith, add-one, true, ◌==◌}
 use Rattle.std.specs.List.{Contains}
 use Rattle.std.specs.FinMap as map
 use Rattle.std.specs.FinMap.{len-entries, len-empty}
 use Rattle.std.proofs.Math.Seq.{take-suc}
 use Rattle.std.proofs.lemmas.List.{map-append}
-use Rattle.std.proofs.lemmas.Bool.{cases_eq}
+use Rattle.std.proofs.lemmas.Bool.{cases_eq, eqb-true}
 use Rattle.std.proofs.lemmas.List.Elements.{Contains-append_left, Contains-append_right, Contains-append_cases}
 use Rattle.sea_base.specs.Space.{Store, Seen, IsKnown, IsSound, Agrees, OnlyRead, Writes, laid}
 use Rattle.sea_base.specs.declared.place.Laddr.{Laddr}
@@ -23,9 +23,9 @@ use Rattle.sea_tree.specs.Subtrees.{Holds, Below}
 use Rattle.sea_tree.specs.Walk.{addresses, Adds, IsUnderFault}
 use Rattle.sea_tree.proofs.Holding.{Holds-node, subtree_held, keys_held, nodes_of_root, no_node, Contains-nil, Contains-head, Contains-cases}
 use Rattle.sea_tree.proofs.Contents.{same_pairs, entries_rise, get_contains, pairs_of_root, only_empty, HasContent-empty}
-use Rattle.sea_tree.proofs.Apart.{distinct-nil, Holds-distinct, IsNodeOf-root, HasContent-beside}
+use Rattle.sea_tree.proofs.Apart.{distinct-nil, Holds-distinct, IsNodeOf-root, HasContent-beside, few_levels}
 use Rattle.sea_tree.proofs.Ways.{HasNode-same, IsBroken-same, laid_same}
-use Rattle.sea_tree.proofs.WaySteps.{cause_since}
+use Rattle.sea_tree.proofs.Touched.{either_true}
 use Rattle.sea_tree.proofs.Walks.{one_store, under_first}
 
 -- ---- a whole tree
@@ -54,9 +54,9 @@ walked_all s level root pairs nodes count holds counted = record {
 }
 
 module _ (root : ℕ) (old read : Seen) (sound : IsSound read) (reads : OnlyRead old read) where
-  pub root_fault : (from now : ℕ) (tells : Bool) (fault : TreeFault) → IsRootFault root read from now tells fault → IsWalkFault root old read from now tells fault
-  root_fault from now tells (Space fault) cause = cause
-  root_fault from now tells (Broken at) (is, known, some, broken) = λ store agrees.
+  pub root_fault : (fault : TreeFault) → IsRootFault root read fault → IsWalkFault root old read fault
+  root_fault (Space fault) cause = tt
+  root_fault (Broken at) (is, known, some, broken) = λ store agrees.
       let same = laid_same old read store reads sound agrees in
       ((λ none. some (same root known ∙ none)), inl (is, λ level. IsBroken-same read read.view (laid old store) same level root root_bounds known (broken level)))
 
@@ -68,9 +68,9 @@ module _ (root : ℕ) (old read : Seen) (sound : IsSound read) (reads : OnlyRead
       has_there : (store : Store) → Agrees store new → HasNode (laid old store) level root root_bounds es
       has_there store agrees = HasNode-same read read.view (laid old store) (laid_same old read store reads sound (agrees_before rest agrees)) level root root_bounds es known has
 
-      pub under_fault : (from since now : ℕ) (tells told : Bool) (fault : TreeFault) → from ≤ since → told ≡ tells → IsUnderFault level es None read new since now told fault → IsWalkFault root old new from now tells fault
-      under_fault from since now tells told (Space fault) le same cause = cause_since from since now tells told fault le same cause
-      under_fault from since now tells told (Broken q) le same breaks = λ store agrees.
+      pub under_fault : (fault : TreeFault) → IsUnderFault level es None read new fault → IsWalkFault root old new fault
+      under_fault (Space fault) cause = tt
+      under_fault (Broken q) breaks = λ store agrees.
           let s = laid old store in
           let there = has_there store agrees in
           let under = subst (λ (t : Store). BreaksUnder t level es None q.0) (one_store reads store) (breaks store agrees) in
@@ -91,9 +91,10 @@ module _ (root : ℕ) (old read : Seen) (sound : IsSound read) (reads : OnlyRead
 pub record Dropped (gone : List ℕ) (old new : Seen) : Type 0 where
   pub here : (store : Store) (q : ℕ) → Contains gone q → laid new store q ≡ None
   pub others : (store : Store) (q : ℕ) → (Contains gone q → ⊥) → laid new store q ≡ laid old store q
+  pub changed : (q : ℕ) → new.changed q ≡ true → (old.changed q ≡ true) ⊎ Contains gone q
 
 pub dropped_none : (old new : Seen) → OnlyRead old new → Dropped [] old new
-dropped_none old new reads = record { here = λ store q c. absurd (Contains-nil q c); others = λ store q not. laid-only_read reads store q }
+dropped_none old new reads = record { here = λ store q c. absurd (Contains-nil q c); others = λ store q not. laid-only_read reads store q; changed = λ q e. inl (sym (reads.changed q) ∙ e) }
 
 pub dropped_more : (gone : List ℕ) (at : ℕ) (old mid new : Seen) → Dropped gone old mid → Writes at None mid new → Dropped (gone ++ at ∷ []) old new
 dropped_more gone at old mid new before w = record {
@@ -102,6 +103,10 @@ dropped_more gone at old mid new before w = record {
     | inr other ↦ laid_others w store q other ∙ before.here store q (earlier q other c)
   ];
   others = λ store q not. laid_others w store q (λ same. not (last q same)) ∙ before.others store q (λ c. not (Contains-append_left gone (at ∷ []) q c));
+  changed = λ q e. elim (either_true (q == at) (mid.changed q) (sym (w.changed q) ∙ e)) [
+    | inl same ↦ inr (last q (eqb-true q at same))
+    | inr earlier ↦ elim (before.changed q earlier) [ inl was ↦ inl was | inr c ↦ inr (Contains-append_left gone (at ∷ []) q c) ]
+  ];
 }
   where
     earlier : (q : ℕ) → q ≢ at → Contains (gone ++ at ∷ []) q → Contains gone q
@@ -111,7 +116,10 @@ dropped_more gone at old mid new before w = record {
     last q same = Contains-append_right gone (at ∷ []) q (subst (λ (a : ℕ). Contains (a ∷ []) q) same (Contains-head q []))
 
 -- a tree all of whose nodes are dropped is empty, and nothing else changes
-module _ (store : Store) (root : ℕ) (old new : Seen) (content : Values) (pairs : ℕ) (walked : List ℕ) (dropped : Dropped walked old new) (w : IsWalked (laid old store) root pairs walked) (m : Meets store root old new content) where
+module _ (store : Store) (root : ℕ) (old new : Seen) (content : Values) (pairs : ℕ) (walked : List ℕ) (dropped : Dropped walked old new) (w : IsWalked (laid old store) root pairs walked) (m : Meets store root old new content) (same_next : new.next ≡ old.next) where
+  none_given : (at : ℕ) → old.next ≤ at → at < new.next → ⊥
+  none_given at from below = omega (arith, same_next)
+
   untouched : (at : ℕ) → (IsNodeOf (laid old store) root at → ⊥) → laid new store at ≡ laid old store at
   untouched at not = dropped.others store at (λ c. not ((w.nodes at).0 c))
 
@@ -131,6 +139,13 @@ module _ (store : Store) (root : ℕ) (old new : Seen) (content : Values) (pairs
       content = HasContent-empty (laid new store) root root_empty;
       elsewhere = λ at other not outside. untouched at not;
       nodes = λ at node. absurd (no_node (laid new store) root at root_empty node);
+      left = λ at was_there filled. absurd (elim was_there [
+        | inl same ↦ filled (ap (laid new store) same ∙ root_empty)
+        | inr (inl node) ↦ filled (nothing at node)
+        | inr (inr given) ↦ none_given at given.0 given.1
+      ]);
+      used = λ at from below. absurd (none_given at from below);
+      levels = λ level tree. few_levels (laid new store) level root root_bounds tree;
       others = λ other kept not_root has apart outside. HasContent-beside (laid old store) (laid new store) root old.next new.next w.tree m.fresh (λ at else not out. untouched at not) other kept has apart not_root outside;
     },
     nothing,

@@ -17,7 +17,6 @@ use Rattle.sea_tree.specs.Walk.{addresses, Adds, IsUnderFault}
 use Rattle.sea_tree.proofs.Holding.{AllBelow-append, Holds-node, each_below}
 use Rattle.sea_tree.proofs.Frames.{AllBelow-one}
 use Rattle.sea_tree.proofs.Ways.{HasNode-same, IsBroken-same, laid_same}
-use Rattle.sea_tree.proofs.WaySteps.{cause_since}
 
 -- reads leave what is laid over a store
 pub one_store : {old new : Seen} → OnlyRead old new → (store : Store) → laid new store ≡ laid old store
@@ -146,9 +145,9 @@ module _ (level : ℕ) (entries : List Entry) (upper : Option (List ℕ)) (index
       to_read = only_read-trans first reading
 
       -- the child is none in its place
-      pub place_fault : (from since now : ℕ) (tells told : Bool) (fault : TreeFault) → from ≤ since → told ≡ tells → IsPlaceFault level at bounds read since now told fault → IsUnderFault (suc level) entries upper old read from now tells fault
-      place_fault from since now tells told (Space fault) le same cause = cause_since from since now tells told fault le same cause
-      place_fault from since now tells told (Broken q) le same (is, known, broken) = λ store agrees.
+      pub place_fault : (fault : TreeFault) → IsPlaceFault level at bounds read fault → IsUnderFault (suc level) entries upper old read fault
+      place_fault (Space fault) cause = tt
+      place_fault (Broken q) (is, known, broken) = λ store agrees.
           let s = laid old store in
           let broken_there = IsBroken-same read read.view s (laid_same old read store to_read sound agrees) level at bounds known broken in
           subst (λ (a : ℕ). BreaksUnder s (suc level) entries upper a) (sym is) (breaks_here s at (p.below store (agrees_before reading agrees)) (broken_first s level at bounds broken_there))
@@ -164,9 +163,9 @@ module _ (level : ℕ) (entries : List Entry) (upper : Option (List ℕ)) (index
         before_there store agrees = p.below store (agrees_before reading (agrees_read store agrees))
 
         -- something below it isn't
-        pub below_fault : (from since now : ℕ) (tells told : Bool) (fault : TreeFault) → from ≤ since → told ≡ tells → IsUnderFault level es bounds.upper read new since now told fault → IsUnderFault (suc level) entries upper old new from now tells fault
-        below_fault from since now tells told (Space fault) le same cause = cause_since from since now tells told fault le same cause
-        below_fault from since now tells told (Broken q) le same breaks = λ store agrees.
+        pub below_fault : (fault : TreeFault) → IsUnderFault level es bounds.upper read new fault → IsUnderFault (suc level) entries upper old new fault
+        below_fault (Space fault) cause = tt
+        below_fault (Broken q) breaks = λ store agrees.
             let under = subst (λ (s : Store). BreaksUnder s level es bounds.upper q.0) (one_store to_read store) (breaks store agrees) in
             breaks_here (laid old store) q.0 (before_there store agrees) (under_first (laid old store) level at bounds es q.0 (has_there store agrees) under)
 

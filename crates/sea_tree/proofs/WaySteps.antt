@@ -1,9 +1,6 @@
 -- Coming down from a root by one step after the other, and the faults that end it.
 use Rattle.std.proofs.Common.{◌≡◌, inl, inr, ℕ, zero, suc, ◌-◌, ◌<◌, ◌≤◌, Bool, List, [], ◌∷◌, ◌++◌, length, None, refl, sym, ap, subst, ◌∙◌, arith}
 use Rattle.sea_base.specs.Space.{Store, Seen, IsKnown, IsSound, OnlyRead, laid}
-use Rattle.sea_base.specs.Faults.{IsCause}
-use Rattle.sea_base.specs.declared.space.SpaceFault.{SpaceFault}
-use Rattle.sea_base.specs.declared.space.SpaceFault.TheVariants.{NoMemory, DeviceFault, Damaged}
 use Rattle.sea_base.specs.Name.{IsName}
 use Rattle.sea_node.specs.Entries.{Entry}
 use Rattle.sea_node.proofs.Keys.{least_key}
@@ -13,7 +10,7 @@ use Rattle.sea_tree.specs.declared.way.Step.{Step}
 use Rattle.sea_tree.specs.declared.way.Way.{Way}
 use Rattle.sea_tree.specs.Tree.{Bounds, root_bounds, LiesWithin, IsAddress, child_bounds}
 use Rattle.sea_tree.specs.Breaks.{HasNode, BreaksOnWay}
-use Rattle.sea_tree.specs.Calls.{IsWayFault, IsWholeWay, IsRangeFault}
+use Rattle.sea_tree.specs.Calls.{IsWayFault, IsWholeWay}
 use Rattle.sea_tree.specs.Place.{meant, Splits, IsPlaceFault, IsRootFault}
 use Rattle.sea_tree.specs.Way.{StepsDown, Descends, AreKnown, ComesDown, IsKnownWay}
 use Rattle.sea_tree.proofs.Splits.{within_upper}
@@ -102,22 +99,16 @@ is_step mid new root key steps at bounds step child below reads down some here u
 
 -- ---- faults
 
-pub cause_since : (before mid now : ℕ) (tells told : Bool) (fault : SpaceFault) → before ≤ mid → told ≡ tells → IsCause mid now told fault → IsCause before now tells fault
-cause_since before mid now tells told NoMemory le same cause = tt
-cause_since before mid now tells told DeviceFault le same (inl rose) = inl (omega arith)
-cause_since before mid now tells told DeviceFault le same (inr last) = inr last
-cause_since before mid now tells told (Damaged block kept found) le same cause = sym same ∙ cause
-
-module _ (old new : Seen) (root : ℕ) (key : List ℕ) (reads : OnlyRead old new) (sound : IsSound new) (before now : ℕ) (tells : Bool) where
-  pub root_fault : (fault : TreeFault) → IsRootFault root new before now tells fault → IsWayFault root key old new before now tells fault
-  root_fault (Space fault) cause = cause
+module _ (old new : Seen) (root : ℕ) (key : List ℕ) (reads : OnlyRead old new) (sound : IsSound new) where
+  pub root_fault : (fault : TreeFault) → IsRootFault root new fault → IsWayFault root key old new fault
+  root_fault (Space fault) cause = tt
   root_fault (Broken at) (is, known, some, broken) = λ store agrees.
       let same = laid_same old new store reads sound agrees in
       ((λ none. some (same root known ∙ none)), inl (is, λ level. IsBroken-same new new.view (laid old store) same level root root_bounds known (broken level)))
 
-  pub step_fault : (steps : List Step) (level at : ℕ) (bounds : Bounds) (step : Step) (child : ℕ) (below : Bounds) (mid : ℕ) (told : Bool) (fault : TreeFault) → IsStep new root key steps level at bounds step child below → before ≤ mid → told ≡ tells → IsPlaceFault level child below new mid now told fault → IsWayFault root key old new before now tells fault
-  step_fault steps level at bounds step child below mid told (Space fault) here le same cause = cause_since before mid now tells told fault le same cause
-  step_fault steps level at bounds step child below mid told (Broken broken) here le same (is, known, breaks) = λ store agrees.
+  pub step_fault : (steps : List Step) (level at : ℕ) (bounds : Bounds) (step : Step) (child : ℕ) (below : Bounds) (fault : TreeFault) → IsStep new root key steps level at bounds step child below → IsPlaceFault level child below new fault → IsWayFault root key old new fault
+  step_fault steps level at bounds step child below (Space fault) here cause = tt
+  step_fault steps level at bounds step child below (Broken broken) here (is, known, breaks) = λ store agrees.
       let equal = laid_same old new store reads sound agrees in
       let laid_down = Descends-laid old new store root key steps (suc level) at bounds step.node.entries reads sound agrees here.0 in
       let top = first_node (laid old store) here.0.top root root_bounds steps key (suc level) at bounds step.node.entries laid_down.0 laid_down.1 in
@@ -136,8 +127,3 @@ whole_way old new root key way reads sound known = λ store at agrees breaks.
 pub empty_way : (old new : Seen) (root : ℕ) (key : List ℕ) → OnlyRead old new → IsSound new → IsKnown new root → new.view root ≡ None → IsWholeWay root key old new
 empty_way old new root key reads sound known none = λ store at agrees breaks.
     breaks.0 (sym (laid_same old new store reads sound agrees root known) ∙ none)
-
--- a fault on a way is one of the tree
-pub range_fault : (root : ℕ) (key : List ℕ) (old new : Seen) (before now : ℕ) (tells : Bool) (fault : TreeFault) → IsWayFault root key old new before now tells fault → IsRangeFault root old new before now tells fault
-range_fault root key old new before now tells (Space fault) cause = cause
-range_fault root key old new before now tells (Broken at) breaks = λ store agrees. breaks_from_way (laid old store) key root at.0 (breaks store agrees)

@@ -1,14 +1,15 @@
 -- Settling the root, and what a change of one pair does to a store in which its tree stands.
-use Rattle.std.specs.Prelude.{◌≡◌, ◌≢◌, ◌⊎◌, ℕ, suc, ◌+◌, ◌<◌, ◌≤◌, List, [], ◌∷◌, ◌++◌, Option, Some, None}
+use Rattle.std.specs.Prelude.{◌≡◌, ◌≢◌, ◌⊎◌, ℕ, suc, ◌+◌, ◌<◌, ◌≤◌, List, [], ◌∷◌, ◌++◌, length, true, Option, Some, None}
 use Rattle.std.specs.FinMap as map
 use Rattle.sea_base.specs.Field.{big_endian}
 use Rattle.sea_base.specs.Space.{Store, Seen, Agrees, laid}
-use Rattle.sea_node.specs.Entries.{Entry, Values}
+use Rattle.sea_node.specs.Entries.{Entry, Values, size}
 use Rattle.sea_node.specs.Node.{IsNode, node_bytes}
 use Rattle.sea_tree.specs.Tree.{IsNodeOf, AreApart, IsAddress, first_key}
 use Rattle.sea_tree.specs.Content.{HasContent}
 use Rattle.sea_tree.specs.Calls.{Meets}
-use Rattle.sea_tree.specs.Does.{Change, overlaid}
+use Rattle.sea_tree.specs.Cut.{IsCut}
+use Rattle.sea_tree.specs.Does.{Change, overlaid, is_among}
 use Rattle.sea_tree.specs.Mending.{IsPart}
 
 -- The store as it is has the new content; nothing else is changed but the root and what was given.
@@ -16,6 +17,8 @@ pub record Changed (was is : Store) (root first last : ℕ) (after : Values) : T
   pub content : HasContent is root after
   pub elsewhere : (at : ℕ) → at ≢ root → (IsNodeOf was root at → ⊥) → (at < first) ⊎ (last ≤ at) → is at ≡ was at
   pub nodes : (at : ℕ) → IsNodeOf is root at → (at ≡ root) ⊎ (IsNodeOf was root at ⊎ ((first ≤ at) × (at < last)))
+  pub left : (at : ℕ) → (at ≡ root) ⊎ (IsNodeOf was root at ⊎ ((first ≤ at) × (at < last))) → is at ≢ None → IsNodeOf is root at
+  pub used : (at : ℕ) → first ≤ at → at < last → IsNodeOf is root at
   pub others : (other : ℕ) (kept : Values) → other ≢ root → HasContent was other kept → AreApart was root other → (other < first) ⊎ (last ≤ other) → HasContent is other kept
 
 -- a content with this value at a key, or without the key
@@ -28,6 +31,12 @@ abbrev pub IsPlanned : ℕ → List ℕ → Option (List ℕ) → Seen → Seen 
 IsPlanned root key value old new changes =
     (store : Store) (before : Values) → Meets store root old new before
     → Changed (laid old store) (overlaid changes (laid old store)) root old.next new.next (changed_content key value before)
+
+-- It writes the root, nodes of the tree, and what was given.
+abbrev pub TouchesOwn : ℕ → Seen → Seen → List Change → Type 0
+TouchesOwn root old new changes =
+    (store : Store) (q : ℕ) → Agrees store new → is_among changes q ≡ true
+    → (q ≡ root) ⊎ (IsNodeOf (laid old store) root q ⊎ ((old.next ≤ q) × (q < new.next)))
 
 -- the entries of a root over two nodes
 abbrev pub root_entries : ℕ → List Entry → List Entry
@@ -44,7 +53,9 @@ pub record RootSplits (level root : ℕ) (entries : List Entry) (old new : Seen)
   pub front : List Entry
   pub back : List Entry
   pub low : level < 7
+  pub large : 4064 < size entries
   pub cut : entries ≡ front ++ back
+  pub is_cut : IsCut entries (length front)
   pub front_part : IsPart front
   pub back_part : IsPart back
   pub planned : changes ≡ (root, Some (node_bytes (suc level) (root_entries old.next back))) ∷ (old.next + 1, Some (node_bytes level back)) ∷ (old.next, Some (node_bytes level front)) ∷ []

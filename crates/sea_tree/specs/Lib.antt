@@ -4,11 +4,14 @@ pub mod Changing
 pub mod Content
 pub mod Cut
 pub mod Does
+pub mod Form
+pub mod Faults
 pub mod Lookup
 pub mod Mending
 pub mod Place
 pub mod Plan
 pub mod Range
+pub mod Reads
 pub mod Settled
 pub mod Subtrees
 pub mod Tree

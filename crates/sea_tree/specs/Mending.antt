@@ -1,5 +1,5 @@
 -- How a tree is mended from a changed leaf up to its root.
-use Rattle.std.specs.Prelude.{◌≡◌, ◌⊎◌, ℕ, ◌<◌, ◌≤◌, List, map, length, Option, if◌then◌else◌}
+use Rattle.std.specs.Prelude.{◌≡◌, ◌⊎◌, ℕ, ◌<◌, ◌≤◌, List, map, length, Option, None, if◌then◌else◌}
 use Rattle.std.specs.List.{All, Contains}
 use Rattle.std.specs.Ordering.{eq_by_cmp}
 use Rattle.sea_base.specs.Name.{IsName}
@@ -60,6 +60,8 @@ pub record Mending (was is : Store) (level at : ℕ) (bounds : Bounds) (before a
   pub key_upper : IsWithin aim.key bounds.upper
   pub elsewhere : (q : ℕ) → (Contains old_nodes q → ⊥) → (IsGiven aim q → ⊥) → is q ≡ was q
   pub nodes : (q : ℕ) → Contains new_nodes q → Contains old_nodes q ⊎ IsGiven aim q
+  pub stays : (q : ℕ) → Contains old_nodes q → Contains new_nodes q ⊎ (is q ≡ None)
+  pub uses : (q : ℕ) → IsGiven aim q → Contains new_nodes q
 
 -- The change is made in the subtree from an address down, which may have another level now where it is a root.
 pub record Replaced (was is : Store) (level new_level at : ℕ) (bounds : Bounds) (aim : Aim) : Type 0 where
@@ -74,6 +76,8 @@ pub record Replaced (was is : Store) (level new_level at : ℕ) (bounds : Bounds
   pub key_upper : IsWithin aim.key bounds.upper
   pub elsewhere : (q : ℕ) → (Contains old_nodes q → ⊥) → (IsGiven aim q → ⊥) → is q ≡ was q
   pub nodes : (q : ℕ) → Contains new_nodes q → Contains old_nodes q ⊎ IsGiven aim q
+  pub stays : (q : ℕ) → Contains old_nodes q → Contains new_nodes q ⊎ (is q ≡ None)
+  pub uses : (q : ℕ) → IsGiven aim q → Contains new_nodes q
 
 -- a part that a split, a join or a cut makes: filled, and not too full
 abbrev pub IsPart : List Entry → Type 0

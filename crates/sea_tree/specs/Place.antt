@@ -1,10 +1,9 @@
 -- Reading one node in its place.
-use Rattle.std.specs.Prelude.{◌≡◌, ℕ, List, ◌∷◌, ◌++◌, length, Bool, None}
+use Rattle.std.specs.Prelude.{◌≡◌, ℕ, List, ◌∷◌, ◌++◌, length, None}
 use Rattle.sea_base.specs.Space.{Seen, IsKnown}
-use Rattle.sea_base.specs.Faults.{IsCause}
 use Rattle.sea_node.specs.Entries.{Entry}
 use Rattle.sea_tree.specs.declared.fault.TreeFault.{TreeFault}
-use Rattle.sea_tree.specs.declared.fault.TreeFault.TheVariants.{Space, Broken}
+use Rattle.sea_tree.specs.Faults.{Blames}
 use Rattle.sea_tree.specs.declared.place.Bounds.{Bounds as HeldBounds}
 use Rattle.sea_tree.specs.Tree.{Bounds, root_bounds}
 use Rattle.sea_tree.specs.Breaks.{IsBroken}
@@ -19,13 +18,10 @@ pub record Splits (entries : List Entry) (index : ℕ) (before : List Entry) (en
   pub count : length before ≡ index
 
 -- why a node was not read in its place
-abbrev pub IsPlaceFault : ℕ → ℕ → Bounds → Seen → ℕ → ℕ → Bool → TreeFault → Type 0
-IsPlaceFault level at bounds new before now tells (Space fault) = IsCause before now tells fault
-IsPlaceFault level at bounds new before now tells (Broken broken) =
-    (broken.0 ≡ at) × IsKnown new at × IsBroken new.view level at bounds
+abbrev pub IsPlaceFault : ℕ → ℕ → Bounds → Seen → TreeFault → Type 0
+IsPlaceFault level at bounds new = Blames (λ broken. (broken ≡ at) × IsKnown new at × IsBroken new.view level at bounds)
 
 -- why a root was not
-abbrev pub IsRootFault : ℕ → Seen → ℕ → ℕ → Bool → TreeFault → Type 0
-IsRootFault root new before now tells (Space fault) = IsCause before now tells fault
-IsRootFault root new before now tells (Broken broken) =
-    (broken.0 ≡ root) × IsKnown new root × (new.view root ≡ None → ⊥) × ((level : ℕ) → IsBroken new.view level root root_bounds)
+abbrev pub IsRootFault : ℕ → Seen → TreeFault → Type 0
+IsRootFault root new =
+    Blames (λ broken. (broken ≡ root) × IsKnown new root × (new.view root ≡ None → ⊥) × ((level : ℕ) → IsBroken new.view level root root_bounds))

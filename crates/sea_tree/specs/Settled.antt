@@ -1,5 +1,5 @@
 -- What settling one node below the root plans, and what it leaves to its parent.
-use Rattle.std.specs.Prelude.{◌≡◌, ◌⊎◌, ℕ, ◌+◌, ◌≤◌, List, [], ◌∷◌, ◌++◌, length, Bool, Option, Some, None}
+use Rattle.std.specs.Prelude.{◌≡◌, ◌⊎◌, ℕ, ◌+◌, ◌<◌, ◌≤◌, List, [], ◌∷◌, ◌++◌, length, Bool, Option, Some, None}
 use Rattle.sea_base.specs.Field.{big_endian}
 use Rattle.sea_base.specs.Space.{Store, Seen, OnlyRead, Agrees, laid}
 use Rattle.sea_node.specs.Entries.{Entry, size}
@@ -10,10 +10,10 @@ use Rattle.sea_node.specs.declared.node.Node.{Node}
 use Rattle.sea_tree.specs.declared.neighbours.Neighbours.{Neighbours as HeldNeighbours}
 use Rattle.sea_tree.specs.declared.way.Step.{Step}
 use Rattle.sea_tree.specs.Tree.{Bounds, IsAddress, child_bounds, first_key}
-use Rattle.sea_base.specs.Faults.{IsCause}
 use Rattle.sea_tree.specs.declared.fault.TreeFault.{TreeFault}
-use Rattle.sea_tree.specs.declared.fault.TreeFault.TheVariants.{Space, Broken}
+use Rattle.sea_tree.specs.Faults.{Blames}
 use Rattle.sea_tree.specs.Breaks.{HasNode, IsBroken, Child}
+use Rattle.sea_tree.specs.Cut.{IsCut}
 use Rattle.sea_tree.specs.Does.{Change}
 use Rattle.sea_tree.specs.Place.{Splits}
 use Rattle.sea_tree.specs.Mending.{IsPart, IsNearPlace}
@@ -28,9 +28,11 @@ pub record Fits (level at : ℕ) (entries : List Entry) (old new : Seen) (change
 
 -- It has too many entries, and the right part goes to a fresh address, of which the parent hears.
 pub record SplitsInTwo (level at : ℕ) (entries : List Entry) (old new : Seen) (changes : List Change) (left : Option Edit) : Type 0 where
+  pub large : 4064 < size entries
   pub front : List Entry
   pub back : List Entry
   pub cut : entries ≡ front ++ back
+  pub is_cut : IsCut entries (length front)
   pub front_part : IsPart front
   pub back_part : IsPart back
   pub planned : changes ≡ (old.next, Some (node_bytes level back)) ∷ (at, Some (node_bytes level front)) ∷ []
@@ -70,6 +72,7 @@ pub record Neighbours (level at : ℕ) (entries : List Entry) (parent : Step) (o
 
 -- The two have room in one node, at the left one's address.
 pub record Joins (level at : ℕ) (entries : List Entry) (parent : Step) (old new : Seen) (changes : List Change) (left : Option Edit) : Type 0 where
+  pub thin : size entries < 1016
   pub pair : Neighbours level at entries parent old new
   pub room : size (pair.one_entries ++ pair.two_entries) ≤ 4064
   pub planned : changes ≡ (pair.two_at, None) ∷ (pair.one_at, Some (node_bytes level (pair.one_entries ++ pair.two_entries))) ∷ []
@@ -78,10 +81,13 @@ pub record Joins (level at : ℕ) (entries : List Entry) (parent : Step) (old ne
 
 -- They have not, and are cut anew. The parent hears of the second one's new key, where it is new.
 pub record Cuts (level at : ℕ) (entries : List Entry) (parent : Step) (old new : Seen) (changes : List Change) (left : Option Edit) : Type 0 where
+  pub thin : size entries < 1016
   pub pair : Neighbours level at entries parent old new
+  pub large : 4064 < size (pair.one_entries ++ pair.two_entries)
   pub front : List Entry
   pub back : List Entry
   pub cut : pair.one_entries ++ pair.two_entries ≡ front ++ back
+  pub is_cut : IsCut (pair.one_entries ++ pair.two_entries) (length front)
   pub front_part : IsPart front
   pub back_part : IsPart back
   pub planned : changes ≡ (pair.two_at, Some (node_bytes level back)) ∷ (pair.one_at, Some (node_bytes level front)) ∷ []
@@ -91,6 +97,7 @@ pub record Cuts (level at : ℕ) (entries : List Entry) (parent : Step) (old new
 -- Two nodes of a level that the entries of one are cut into.
 pub record AreHalves (level : ℕ) (entries : List Entry) (front back : Node) : Type 0 where
   pub cut : entries ≡ front.entries ++ back.entries
+  pub is_cut : IsCut entries (length front.entries)
   pub front_level : front.level ≡ level
   pub back_level : back.level ≡ level
   pub front_node : IsNode level front.entries
@@ -101,6 +108,7 @@ pub record AreHalves (level : ℕ) (entries : List Entry) (front back : Node) : 
 -- What is in hand of two neighbours: their addresses, the separator between them, and a node of all their
 -- entries, but for its size.
 pub record AreNeighbours (level at : ℕ) (entries : List Entry) (parent : Step) (old new : Seen) (held : HeldNeighbours) : Type 0 where
+  pub thin : size entries < 1016
   pub pair : Neighbours level at entries parent old new
   pub left : pair.one_at ≡ held.left.0
   pub right : pair.two_at ≡ held.right.0
@@ -116,6 +124,8 @@ pub record CutAnew (held : HeldNeighbours) (before after : List Change) (left : 
   pub front : List Entry
   pub back : List Entry
   pub cut : held.both.entries ≡ front ++ back
+  pub large : 4064 < size held.both.entries
+  pub is_cut : IsCut held.both.entries (length front)
   pub front_part : IsPart front
   pub back_part : IsPart back
   pub planned : after ≡ (held.right.0, Some (node_bytes held.both.level back)) ∷ (held.left.0, Some (node_bytes held.both.level front)) ∷ before
@@ -134,9 +144,8 @@ Settled level at entries parent old new changes left =
     ⊎ (Joins level at entries parent old new changes left ⊎ Cuts level at entries parent old new changes left))
 
 -- why a node was not settled: a neighbour of it is no node in its place, and reads alone were made
-abbrev pub IsSettleFault : ℕ → Step → Seen → Seen → ℕ → ℕ → Bool → TreeFault → Type 0
-IsSettleFault level parent old new before now tells (Space fault) = IsCause before now tells fault
-IsSettleFault level parent old new before now tells (Broken at) =
-    OnlyRead old new
-    × ((front : List Entry) × (back : List Entry) × (b : Bounds) × Child parent.node.entries parent.upper front back at.0 b
-    × ((store : Store) → Agrees store new → IsBroken (laid old store) level at.0 b))
+abbrev pub IsSettleFault : ℕ → Step → Seen → Seen → TreeFault → Type 0
+IsSettleFault level parent old new =
+    Blames (λ at. OnlyRead old new
+    × ((front : List Entry) × (back : List Entry) × (b : Bounds) × Child parent.node.entries parent.upper front back at b
+    × ((store : Store) → Agrees store new → IsBroken (laid old store) level at b)))

@@ -1,10 +1,9 @@
 -- Walking through a whole tree, parents first.
-use Rattle.std.specs.Prelude.{◌≡◌, ℕ, ◌+◌, ◌-◌, ◌^◌, List, ◌++◌, length, map, min, Bool, Option}
+use Rattle.std.specs.Prelude.{◌≡◌, ℕ, ◌+◌, ◌-◌, ◌^◌, List, ◌++◌, length, map, min, Option}
 use Rattle.sea_base.specs.Space.{Store, Seen, Agrees, laid}
-use Rattle.sea_base.specs.Faults.{IsCause}
 use Rattle.sea_node.specs.Entries.{Entry}
 use Rattle.sea_tree.specs.declared.fault.TreeFault.{TreeFault}
-use Rattle.sea_tree.specs.declared.fault.TreeFault.TheVariants.{Space, Broken}
+use Rattle.sea_tree.specs.Faults.{Blames}
 use Rattle.sea_tree.specs.declared.walking.Walk.{Walk}
 use Rattle.sea_tree.specs.Breaks.{BreaksUnder}
 use Rattle.sea_tree.specs.Subtrees.{Below}
@@ -22,7 +21,6 @@ pub record Adds (level : ℕ) (entries : List Entry) (upper : Option (List ℕ))
   pub listed : addresses after ≡ addresses before ++ nodes
 
 -- why it ended
-abbrev pub IsUnderFault : ℕ → List Entry → Option (List ℕ) → Seen → Seen → ℕ → ℕ → Bool → TreeFault → Type 0
-IsUnderFault level entries upper old new before now tells (Space fault) = IsCause before now tells fault
-IsUnderFault level entries upper old new before now tells (Broken at) =
-    (store : Store) → Agrees store new → BreaksUnder (laid old store) level entries upper at.0
+abbrev pub IsUnderFault : ℕ → List Entry → Option (List ℕ) → Seen → Seen → TreeFault → Type 0
+IsUnderFault level entries upper old new =
+    Blames (λ at. (store : Store) → Agrees store new → BreaksUnder (laid old store) level entries upper at)

@@ -1,17 +1,21 @@
 //! Putting a pair into a tree, and taking one out.
-ghost use Rattle.std.specs.Prelude.{◌≡◌, ◌≤◌, ◌<◌, ◌+◌, ◌^◌, [], ◌∷◌, Some, IfOk, IfErr, OnOk, IsTrue, IfSome, length};
+ghost use Rattle.std.specs.Prelude.{◌≡◌, ◌≤◌, ◌<◌, ◌+◌, ◌^◌, [], ◌∷◌, Some, None, IfOk, IfErr, OnOk, IsTrue, IfSome, IfNone, length, reverse, ◌⊎◌};
 ghost use Rattle.std.specs.Option.{option_copied};
 ghost use Rattle.std.specs.FinMap as map;
-ghost use Rattle.sea_base.specs.Space.{Store, laid};
+ghost use Rattle.sea_base.specs.Space.{Store, OnlyRead, laid};
 ghost use Rattle.std.specs.FinMap.Entries.{find};
-ghost use Rattle.sea_node.specs.Entries.{Values, key_order};
+ghost use Rattle.sea_node.specs.Entries.{Values, key_order, edited};
 ghost use Rattle.sea_node.specs.Node.{node_bytes};
 ghost use Rattle.sea_tree.specs.Breaks.{FillsFewer};
-ghost use Rattle.sea_tree.specs.Does.{Does, ChangesAtMost};
-ghost use Rattle.sea_tree.specs.Plan.{changes_of, count_filled};
+ghost use Rattle.sea_tree.specs.Does.{Does, ChangesAtMost, SplicesOnce};
+ghost use Rattle.sea_tree.specs.Plan.{plan_changes, plan_fills, CanSplice};
+ghost use Rattle.sea_tree.specs.Reads.{ReadsNear};
 ghost use Rattle.sea_tree.specs.Way.{IsKnownWay};
-ghost use Rattle.sea_tree.specs.Changing.{IsPlanned};
-ghost use Rattle.sea_tree.specs.Calls.{Meets, Becomes, IsChangeFault, IsWholeWay, IsOfSpace};
+ghost use Rattle.sea_tree.specs.Form.{Rises, HasForm, HasFirst};
+ghost use Rattle.sea_tree.specs.Changing.{IsPlanned, TouchesOwn};
+ghost use Rattle.sea_tree.specs.Calls.{Meets, Becomes, ChangesOwn, IsChangeFault, IsPlanFault, IsWholeWay, IsOfSpace, IsUnchanged};
+ghost use Rattle.sea_base.specs.Ghosts.{IsReady, IsCall};
+ghost use Rattle.sea_tree.specs.Calls.{space_fault};
 
 use crate::TreeFault;
 use crate::edit::Edit;
@@ -32,21 +36,25 @@ pub fn put<S: Space>(
     key: &Key,
     value: &Data,
 ) -> Result<Option<Data>, TreeFault>
-    requires ready { IsTrue (S.ready space.old) }
+    requires ready { IsReady S.Space space.old }
     requires room { (S.seen space.old).next < 2 ^ 62 + 2 ^ 46 }
     requires value { length value.now ≤ 1024 }
     ensures changed { IfOk result (λ found. (store : Store) (content : Values)
         → Meets store root.0 (S.seen space.old) (S.seen space.new) content
         → (found ≡ map.get content key.now) × Becomes store root.0 (S.seen space.old) (S.seen space.new) (map.insert content key.now value.now)) }
     ensures whole { OnOk result (IsWholeWay root.0 key.now (S.seen space.old) (S.seen space.new)) }
-    ensures fault { IfErr result (IsChangeFault root.0 (S.seen space.old) (S.seen space.new) (S.faults space.old) (S.faults space.new) (S.tells space.old)) }
+    ensures fault { IfErr result (IsChangeFault root.0 key.now (S.seen space.old) (S.seen space.new)) }
     ensures never_full { IfErr result (λ fault. (store : Store) (content : Values)
         → Meets store root.0 (S.seen space.old) (S.seen space.new) content → FillsFewer (laid (S.seen space.old) store) (2 ^ 25) → IsOfSpace fault) }
+    ensures form { OnOk result (HasForm root.0 key.now (Some value.now) (S.seen space.old) (S.seen space.new)
+        ⊎ HasFirst root.0 key.now value.now (S.seen space.old) (S.seen space.new)) }
+    ensures own { OnOk result (ChangesOwn root.0 (S.seen space.old) (S.seen space.new)) }
+    ensures near { OnOk result (ReadsNear root.0 key.now (S.seen space.old) (S.seen space.new)) }
+    ensures unchanged { IfErr result (IsUnchanged (S.seen space.old) (S.seen space.new)) }
     ensures few { OnOk result (ChangesAtMost 17 (S.seen space.old) (S.seen space.new)) }
+    ensures once { OnOk result (SplicesOnce 1091 (S.seen space.old) (S.seen space.new)) }
     ensures next { ((S.seen space.old).next ≤ (S.seen space.new).next) × ((S.seen space.new).next < (S.seen space.old).next + 2 ^ 20) }
-    ensures later { S.faults space.old ≤ S.faults space.new }
-    ensures tells { S.tells space.new ≡ S.tells space.old }
-    ensures ready { IsTrue (S.ready space.new) }
+    ensures call { IsCall S.Space space.old space.new (space_fault result) }
 {
     // The bytes of a key are a name.
     prove!(!key.bytes().is_empty());
@@ -68,20 +76,24 @@ pub fn del<S: Space>(
     root: Laddr,
     key: &Key,
 ) -> Result<Option<Data>, TreeFault>
-    requires ready { IsTrue (S.ready space.old) }
+    requires ready { IsReady S.Space space.old }
     requires room { (S.seen space.old).next < 2 ^ 62 + 2 ^ 46 }
     ensures changed { IfOk result (λ found. (store : Store) (content : Values)
         → Meets store root.0 (S.seen space.old) (S.seen space.new) content
         → (found ≡ map.get content key.now) × Becomes store root.0 (S.seen space.old) (S.seen space.new) (map.remove content key.now)) }
     ensures whole { OnOk result (IsWholeWay root.0 key.now (S.seen space.old) (S.seen space.new)) }
-    ensures fault { IfErr result (IsChangeFault root.0 (S.seen space.old) (S.seen space.new) (S.faults space.old) (S.faults space.new) (S.tells space.old)) }
+    ensures fault { IfErr result (IsChangeFault root.0 key.now (S.seen space.old) (S.seen space.new)) }
     ensures never_full { IfErr result (λ fault. (store : Store) (content : Values)
         → Meets store root.0 (S.seen space.old) (S.seen space.new) content → FillsFewer (laid (S.seen space.old) store) (2 ^ 25) → IsOfSpace fault) }
+    ensures absent { IfOk result (λ found. IfNone found (OnlyRead (S.seen space.old) (S.seen space.new))) }
+    ensures form { IfOk result (λ found. IfSome found (λ value. HasForm root.0 key.now None (S.seen space.old) (S.seen space.new))) }
+    ensures own { OnOk result (ChangesOwn root.0 (S.seen space.old) (S.seen space.new)) }
+    ensures near { OnOk result (ReadsNear root.0 key.now (S.seen space.old) (S.seen space.new)) }
+    ensures unchanged { IfErr result (IsUnchanged (S.seen space.old) (S.seen space.new)) }
     ensures few { OnOk result (ChangesAtMost 17 (S.seen space.old) (S.seen space.new)) }
+    ensures once { OnOk result (SplicesOnce 1091 (S.seen space.old) (S.seen space.new)) }
     ensures next { ((S.seen space.old).next ≤ (S.seen space.new).next) × ((S.seen space.new).next < (S.seen space.old).next + 2 ^ 20) }
-    ensures later { S.faults space.old ≤ S.faults space.new }
-    ensures tells { S.tells space.new ≡ S.tells space.old }
-    ensures ready { IsTrue (S.ready space.new) }
+    ensures call { IsCall S.Space space.old space.new (space_fault result) }
 {
     let Some(way) = way_to(alloc, space, root, key)? else {
         return Ok(None);
@@ -107,14 +119,15 @@ fn copy_of(node: &Node, key: &Key) -> Result<Option<Data>, NoMemory>
 // What is to be written for the first pair of a tree.
 fn planted(alloc: Global, root: Laddr, key: &Key, value: &Data) -> Result<Plan, NoMemory>
     requires { length value.now ≤ 1024 }
-    ensures planned { IfOk result (λ plan. changes_of plan ≡ (root.0, Some (node_bytes 0 ((key.now, value.now) ∷ []))) ∷ []) }
-    ensures few { IfOk result (λ plan. count_filled plan ≡ 1) }
+    ensures planned { IfOk result (λ plan. plan_changes plan ≡ (root.0, Some (node_bytes 0 ((key.now, value.now) ∷ []))) ∷ []) }
+    ensures few { IfOk result (λ plan. plan_fills plan ≡ 1) }
+    ensures whole { IfOk result (λ plan. plan.splice ≡ None) }
 {
     let mut entries = Pairs::new(alloc);
     entries.push((key.copy()?, value.copy()?))?;
     let leaf = Node { level: 0, entries };
     let mut plan = Plan::new(alloc);
-    plan_node(alloc, &mut plan, root, &leaf)?;
+    plan_node(alloc, &mut plan.writes, root, &leaf)?;
     Ok(plan)
 }
 
@@ -128,19 +141,23 @@ fn mended<S: Space>(
     key: &Key,
     value: Option<&Data>,
 ) -> Result<Plan, TreeFault>
-    requires ready { IsTrue (S.ready space.old) }
+    requires ready { IsReady S.Space space.old }
     requires room { (S.seen space.old).next < 2 ^ 62 + 2 ^ 46 }
     requires value { IfSome (option_copied value) (λ v. length v ≤ 1024) }
     requires way { IsKnownWay (S.seen space.old) root.0 key.now way }
-    ensures planned { IfOk result (λ plan. IsPlanned root.0 key.now (option_copied value.entry) (S.seen space.old) (S.seen space.new) (changes_of plan)) }
-    ensures few { IfOk result (λ plan. count_filled plan ≤ 17) }
-    ensures fault { IfErr result (IsChangeFault root.0 (S.seen space.old) (S.seen space.new) (S.faults space.old) (S.faults space.new) (S.tells space.old)) }
+    ensures planned { IfOk result (λ plan. IsPlanned root.0 key.now (option_copied value.entry) (S.seen space.old) (S.seen space.new) (plan_changes plan)) }
+    ensures form { IfOk result (λ plan. Rises (reverse way.steps.items) 0 way.at.0 (edited key.now (option_copied value.entry) way.leaf.entries)
+        (S.seen space.old) (S.seen space.new) [] (plan_changes plan)) }
+    ensures own { IfOk result (λ plan. TouchesOwn root.0 (S.seen space.old) (S.seen space.new) (plan_changes plan)) }
+    ensures few { IfOk result (λ plan. plan_fills plan ≤ 17) }
+    ensures spliced { IfOk result (CanSplice (S.seen space.new)) }
+    ensures fault { IfErr result (IsPlanFault root.0 (S.seen space.old) (S.seen space.new)) }
+    ensures near { OnOk result (ReadsNear root.0 key.now (S.seen space.old) (S.seen space.new)) }
     ensures reads { OnOk result (Does [] (S.seen space.old) (S.seen space.new)) }
+    ensures unchanged { IfErr result (IsUnchanged (S.seen space.old) (S.seen space.new)) }
     ensures rises { (S.seen space.old).next ≤ (S.seen space.new).next }
     ensures next { (S.seen space.new).next ≤ (S.seen space.old).next + 9 }
-    ensures later { S.faults space.old ≤ S.faults space.new }
-    ensures tells { S.tells space.new ≡ S.tells space.old }
-    ensures ready { IsTrue (S.ready space.new) }
+    ensures call { IsCall S.Space space.old space.new (space_fault result) }
 {
     // The bytes of a key are a name.
     prove!(!key.bytes().is_empty());

@@ -1,7 +1,7 @@
 //! A key looked up in a tree, by one block a level and with no list of a node's entries.
 ghost use Rattle.std.specs.Prelude.{◌≡◌, ℕ, ◌≤◌, List, None, IsTrue, IfOk, IfSome, IfNone, OnOk, IfErr, ◌↔◌, length};
 ghost use Rattle.std.specs.Option.{option_copied, option_or, MatchOption};
-ghost use Rattle.sea_base.specs.Space.{IsKnown, OnlyRead};
+ghost use Rattle.sea_base.specs.Space.{IsKnown, OnlyRead, ReadsAtMost};
 ghost use Rattle.sea_node.specs.Entries.{Entry};
 ghost use Rattle.sea_node.specs.Node.{IsNode};
 ghost use Rattle.sea_node.specs.Lookup.{Tells};
@@ -9,7 +9,10 @@ ghost use Rattle.sea_tree.specs.Tree.{root_bounds, IsAddress, IsInPlace, IsWithi
 ghost use Rattle.sea_tree.specs.Breaks.{HasNode};
 ghost use Rattle.sea_tree.specs.Calls.{IsWayFault, IsWholeWay};
 ghost use Rattle.sea_tree.specs.Place.{meant, IsPlaceFault, IsRootFault};
+ghost use Rattle.sea_tree.specs.Reads.{ReadsWay};
 ghost use Rattle.sea_tree.specs.Lookup.{LooksAtLeaf};
+ghost use Rattle.sea_base.specs.Ghosts.{IsReady, IsCall};
+ghost use Rattle.sea_tree.specs.Calls.{space_fault};
 
 use crate::TreeFault;
 use crate::place::{Bounds, LEAST_BYTES, address_of, is_below};
@@ -22,16 +25,15 @@ pub(crate) fn look_up<S: Space>(
     root: Laddr,
     key: &Key,
 ) -> Result<Option<Lookup>, TreeFault>
-    requires { IsTrue (S.ready space.old) }
+    requires { IsReady S.Space space.old }
     ensures leaf { IfOk result (λ found. IfSome found (LooksAtLeaf (S.seen space.new) root.0 key.now)) }
     ensures none { IfOk result (λ found. IfNone found ((S.seen space.new).view root.0 ≡ None)) }
     ensures known { OnOk result (IsKnown (S.seen space.new) root.0) }
     ensures whole { OnOk result (IsWholeWay root.0 key.now (S.seen space.old) (S.seen space.new)) }
-    ensures fault { IfErr result (IsWayFault root.0 key.now (S.seen space.old) (S.seen space.new) (S.faults space.old) (S.faults space.new) (S.tells space.old)) }
+    ensures fault { IfErr result (IsWayFault root.0 key.now (S.seen space.old) (S.seen space.new)) }
+    ensures within { ReadsWay root.0 key.now (S.seen space.old) (S.seen space.new) }
     ensures reads { OnlyRead (S.seen space.old) (S.seen space.new) }
-    ensures later { S.faults space.old ≤ S.faults space.new }
-    ensures tells { S.tells space.new ≡ S.tells space.old }
-    ensures ready { IsTrue (S.ready space.new) }
+    ensures call { IsCall S.Space space.old space.new (space_fault result) }
 {
     prove!(!key.bytes().is_empty());
     let Some(mut lookup) = look_at_root(space, root, key)? else {
@@ -71,15 +73,14 @@ fn look_at<S: Space>(
     bounds: &Bounds,
     key: &Key,
 ) -> Result<Lookup, TreeFault>
-    requires { IsTrue (S.ready space.old) }
+    requires { IsReady S.Space space.old }
     ensures level { IfOk result (λ lookup. lookup.level ≡ level) }
     ensures node { IfOk result (λ lookup. (entries : List Entry) × HasNode (S.seen space.new).view level at.0 (meant bounds.now) entries × Tells key.now entries lookup) }
     ensures known { OnOk result (IsKnown (S.seen space.new) at.0) }
-    ensures fault { IfErr result (IsPlaceFault level at.0 (meant bounds.now) (S.seen space.new) (S.faults space.old) (S.faults space.new) (S.tells space.old)) }
+    ensures fault { IfErr result (IsPlaceFault level at.0 (meant bounds.now) (S.seen space.new)) }
+    ensures one { ReadsAtMost at.0 (S.seen space.old) (S.seen space.new) }
     ensures reads { OnlyRead (S.seen space.old) (S.seen space.new) }
-    ensures later { S.faults space.old ≤ S.faults space.new }
-    ensures tells { S.tells space.new ≡ S.tells space.old }
-    ensures ready { IsTrue (S.ready space.new) }
+    ensures call { IsCall S.Space space.old space.new (space_fault result) }
 {
     let Some(block) = space.get(at)? else {
         return Err(TreeFault::Broken { at });
@@ -114,15 +115,14 @@ fn look_at_root<S: Space>(
     root: Laddr,
     key: &Key,
 ) -> Result<Option<Lookup>, TreeFault>
-    requires { IsTrue (S.ready space.old) }
+    requires { IsReady S.Space space.old }
     ensures node { IfOk result (λ found. IfSome found (λ lookup. (entries : List Entry) × HasNode (S.seen space.new).view lookup.level root.0 root_bounds entries × Tells key.now entries lookup)) }
     ensures none { IfOk result (λ found. IfNone found ((S.seen space.new).view root.0 ≡ None)) }
     ensures known { OnOk result (IsKnown (S.seen space.new) root.0) }
-    ensures fault { IfErr result (IsRootFault root.0 (S.seen space.new) (S.faults space.old) (S.faults space.new) (S.tells space.old)) }
+    ensures fault { IfErr result (IsRootFault root.0 (S.seen space.new)) }
+    ensures one { ReadsAtMost root.0 (S.seen space.old) (S.seen space.new) }
     ensures reads { OnlyRead (S.seen space.old) (S.seen space.new) }
-    ensures later { S.faults space.old ≤ S.faults space.new }
-    ensures tells { S.tells space.new ≡ S.tells space.old }
-    ensures ready { IsTrue (S.ready space.new) }
+    ensures call { IsCall S.Space space.old space.new (space_fault result) }
 {
     let Some(block) = space.get(root)? else {
         return Ok(None);

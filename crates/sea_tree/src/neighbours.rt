@@ -1,9 +1,12 @@
 //! Two adjacent children of a node.
-ghost use Rattle.std.specs.Prelude.{◌≡◌, ◌+◌, ◌<◌, ◌≤◌, ◌++◌, IfOk, IfErr, IsTrue, length};
+ghost use Rattle.std.specs.Prelude.{◌≡◌, ◌+◌, ◌<◌, ◌≤◌, ◌++◌, OnOk, IfOk, IfErr, IsTrue, length};
 ghost use Rattle.sea_base.specs.Space.{IsKnown, OnlyRead};
 ghost use Rattle.sea_node.specs.Entries.{size};
 ghost use Rattle.sea_node.specs.Node.{IsNode};
+ghost use Rattle.sea_tree.specs.Reads.{ReadsChild};
 ghost use Rattle.sea_tree.specs.Settled.{IsNearChild, HasChild, AreNeighbours, IsSettleFault};
+ghost use Rattle.sea_base.specs.Ghosts.{IsReady, IsCall};
+ghost use Rattle.sea_tree.specs.Calls.{space_fault};
 
 use crate::TreeFault;
 use crate::edit::push_copies;
@@ -35,18 +38,17 @@ impl Neighbours {
         at: Laddr,
         node: &Node,
     ) -> Result<Neighbours, TreeFault>
-        requires ready { IsTrue (S.ready space.old) }
+        requires ready { IsReady S.Space space.old }
         requires parent { IsNode parent.now.node.level parent.now.node.entries }
         requires level { parent.now.node.level ≡ node.now.level + 1 }
         requires index { parent.now.index < length parent.now.node.entries }
         requires child { IsNearChild parent.now node.now.level at.0 node.now.entries }
         requires small { size node.now.entries < 1016 }
         ensures held { IfOk result (AreNeighbours node.now.level at.0 node.now.entries parent.now (S.seen space.old) (S.seen space.new)) }
-        ensures fault { IfErr result (IsSettleFault node.now.level parent.now (S.seen space.old) (S.seen space.new) (S.faults space.old) (S.faults space.new) (S.tells space.old)) }
+        ensures fault { IfErr result (IsSettleFault node.now.level parent.now (S.seen space.old) (S.seen space.new)) }
+        ensures within { OnOk result (ReadsChild parent.now.node.entries (S.seen space.old) (S.seen space.new)) }
         ensures reads { OnlyRead (S.seen space.old) (S.seen space.new) }
-        ensures later { S.faults space.old ≤ S.faults space.new }
-        ensures tells { S.tells space.new ≡ S.tells space.old }
-        ensures ready { IsTrue (S.ready space.new) }
+        ensures call { IsCall S.Space space.old space.new (space_fault result) }
     {
         let entries = parent.node.entries.items();
         if parent.index + 1 < entries.len() {
@@ -77,18 +79,17 @@ fn child_of<S: Space>(
     index: usize,
     level: u32,
 ) -> Result<(Laddr, Node), TreeFault>
-    requires ready { IsTrue (S.ready space.old) }
+    requires ready { IsReady S.Space space.old }
     requires parent { IsNode parent.now.node.level parent.now.node.entries }
     requires level { parent.now.node.level ≡ level + 1 }
     requires index { index < length parent.now.node.entries }
     ensures level { IfOk result (λ found. found.1.level ≡ level) }
     ensures child { IfOk result (λ found. HasChild (S.seen space.new).view parent.now index level found.0.0 found.1.entries) }
     ensures known { IfOk result (λ found. IsKnown (S.seen space.new) found.0.0) }
-    ensures fault { IfErr result (IsSettleFault level parent.now (S.seen space.old) (S.seen space.new) (S.faults space.old) (S.faults space.new) (S.tells space.old)) }
+    ensures fault { IfErr result (IsSettleFault level parent.now (S.seen space.old) (S.seen space.new)) }
+    ensures within { OnOk result (ReadsChild parent.now.node.entries (S.seen space.old) (S.seen space.new)) }
     ensures reads { OnlyRead (S.seen space.old) (S.seen space.new) }
-    ensures later { S.faults space.old ≤ S.faults space.new }
-    ensures tells { S.tells space.new ≡ S.tells space.old }
-    ensures ready { IsTrue (S.ready space.new) }
+    ensures call { IsCall S.Space space.old space.new (space_fault result) }
 {
     let at = child_at(&parent.node, index);
     let bounds = Bounds::of_child(&parent.node, index, parent.upper.as_ref())?;

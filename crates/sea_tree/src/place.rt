@@ -2,12 +2,14 @@
 ghost use Rattle.std.specs.Prelude.{◌≡◌, ℕ, ◌+◌, ◌<◌, ◌≤◌, ◌∷◌, ◌++◌, List, None, IsTrue, IfOk, IfSome, IfNone, IfErr, OnOk, ◌↔◌, length};
 ghost use Rattle.std.specs.Option.{option_copied};
 ghost use Rattle.sea_base.specs.Field.{big_endian};
-ghost use Rattle.sea_base.specs.Space.{IsKnown, OnlyRead};
+ghost use Rattle.sea_base.specs.Space.{IsKnown, OnlyRead, ReadsAtMost};
 ghost use Rattle.sea_node.specs.Entries.{Entry, IsNotAbove};
 ghost use Rattle.sea_node.specs.Node.{IsNode};
 ghost use Rattle.sea_tree.specs.Tree.{root_bounds, child_bounds, IsInPlace, IsAddress, LiesWithin, IsWithin, first_key};
 ghost use Rattle.sea_tree.specs.Breaks.{HasNode};
 ghost use Rattle.sea_tree.specs.Place.{meant, Splits, IsPlaceFault, IsRootFault};
+ghost use Rattle.sea_base.specs.Ghosts.{IsReady, IsCall};
+ghost use Rattle.sea_tree.specs.Calls.{space_fault};
 
 use crate::TreeFault;
 use crate::cut::size_of;
@@ -145,15 +147,14 @@ pub(crate) fn node_at<S: Space>(
     level: u32,
     bounds: &Bounds,
 ) -> Result<Node, TreeFault>
-    requires { IsTrue (S.ready space.old) }
+    requires { IsReady S.Space space.old }
     ensures level { IfOk result (λ node. node.level ≡ level) }
     ensures node { IfOk result (λ node. HasNode (S.seen space.new).view level at.0 (meant bounds.now) node.entries) }
     ensures known { OnOk result (IsKnown (S.seen space.new) at.0) }
-    ensures fault { IfErr result (IsPlaceFault level at.0 (meant bounds.now) (S.seen space.new) (S.faults space.old) (S.faults space.new) (S.tells space.old)) }
+    ensures fault { IfErr result (IsPlaceFault level at.0 (meant bounds.now) (S.seen space.new)) }
+    ensures one { ReadsAtMost at.0 (S.seen space.old) (S.seen space.new) }
     ensures reads { OnlyRead (S.seen space.old) (S.seen space.new) }
-    ensures later { S.faults space.old ≤ S.faults space.new }
-    ensures tells { S.tells space.new ≡ S.tells space.old }
-    ensures ready { IsTrue (S.ready space.new) }
+    ensures call { IsCall S.Space space.old space.new (space_fault result) }
 {
     let Some(block) = space.get(at)? else {
         return Err(TreeFault::Broken { at });
@@ -173,15 +174,14 @@ pub(crate) fn root_at<S: Space>(
     space: &mut S,
     root: Laddr,
 ) -> Result<Option<Node>, TreeFault>
-    requires { IsTrue (S.ready space.old) }
+    requires { IsReady S.Space space.old }
     ensures node { IfOk result (λ found. IfSome found (λ node. HasNode (S.seen space.new).view node.level root.0 root_bounds node.entries)) }
     ensures none { IfOk result (λ found. IfNone found ((S.seen space.new).view root.0 ≡ None)) }
     ensures known { OnOk result (IsKnown (S.seen space.new) root.0) }
-    ensures fault { IfErr result (IsRootFault root.0 (S.seen space.new) (S.faults space.old) (S.faults space.new) (S.tells space.old)) }
+    ensures fault { IfErr result (IsRootFault root.0 (S.seen space.new)) }
+    ensures one { ReadsAtMost root.0 (S.seen space.old) (S.seen space.new) }
     ensures reads { OnlyRead (S.seen space.old) (S.seen space.new) }
-    ensures later { S.faults space.old ≤ S.faults space.new }
-    ensures tells { S.tells space.new ≡ S.tells space.old }
-    ensures ready { IsTrue (S.ready space.new) }
+    ensures call { IsCall S.Space space.old space.new (space_fault result) }
 {
     let Some(block) = space.get(root)? else {
         return Ok(None);

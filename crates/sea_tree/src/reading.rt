@@ -1,12 +1,15 @@
 //! Reading a tree: the value under a key, and the pairs above one.
-ghost use Rattle.std.specs.Prelude.{◌≡◌, ◌≤◌, ◌++◌, IfOk, IfErr, OnOk, IsTrue, take, length};
-ghost use Rattle.std.specs.Option.{option_copied};
+ghost use Rattle.std.specs.Prelude.{◌≡◌, ◌≤◌, ◌++◌, ◌∷◌, [], IfOk, IfErr, OnOk, IsTrue, take, length};
+ghost use Rattle.std.specs.Option.{option_copied, unwrap_or};
 ghost use Rattle.std.specs.FinMap as map;
 ghost use Rattle.std.specs.FinMap.Entries.{find};
 ghost use Rattle.sea_base.specs.Space.{Store, OnlyRead};
 ghost use Rattle.sea_node.specs.Entries.{Values, key_order};
-ghost use Rattle.sea_tree.specs.Calls.{Meets, pairs_above, IsWayFault, IsRangeFault, IsWholeWay};
+ghost use Rattle.sea_tree.specs.Calls.{Meets, pairs_above, IsWayFault, IsRangeFault, WalksWhole, IsWholeWay};
+ghost use Rattle.sea_tree.specs.Reads.{ReadsWay, ReadsRange};
 ghost use Rattle.sea_tree.specs.Range.{is_above, entries_above};
+ghost use Rattle.sea_base.specs.Ghosts.{IsReady, IsCall};
+ghost use Rattle.sea_tree.specs.Calls.{space_fault};
 
 use crate::TreeFault;
 use crate::lookup::look_up;
@@ -16,20 +19,16 @@ use sea_base::{Data, Duplicate, Key, Laddr, NoMemory, Pairs, Space};
 use sea_node::{Lookup, Node};
 use std::alloc::Global;
 
-#[cfg(test)]
-pub(crate) mod tests;
-
 /// The value under a key.
 pub fn get<S: Space>(space: &mut S, root: Laddr, key: &Key) -> Result<Option<Data>, TreeFault>
-    requires { IsTrue (S.ready space.old) }
+    requires { IsReady S.Space space.old }
     ensures value { IfOk result (λ found. (store : Store) (content : Values)
         → Meets store root.0 (S.seen space.old) (S.seen space.new) content → found ≡ map.get content key.now) }
     ensures whole { OnOk result (IsWholeWay root.0 key.now (S.seen space.old) (S.seen space.new)) }
-    ensures fault { IfErr result (IsWayFault root.0 key.now (S.seen space.old) (S.seen space.new) (S.faults space.old) (S.faults space.new) (S.tells space.old)) }
+    ensures fault { IfErr result (IsWayFault root.0 key.now (S.seen space.old) (S.seen space.new)) }
+    ensures within { ReadsWay root.0 key.now (S.seen space.old) (S.seen space.new) }
     ensures reads { OnlyRead (S.seen space.old) (S.seen space.new) }
-    ensures later { S.faults space.old ≤ S.faults space.new }
-    ensures tells { S.tells space.new ≡ S.tells space.old }
-    ensures ready { IsTrue (S.ready space.new) }
+    ensures call { IsCall S.Space space.old space.new (space_fault result) }
 {
     let Some(lookup) = look_up(space, root, key)? else {
         return Ok(None);
@@ -62,14 +61,14 @@ pub fn range<S: Space>(
     after: Option<&Key>,
     limit: u32,
 ) -> Result<Pairs, TreeFault>
-    requires { IsTrue (S.ready space.old) }
+    requires { IsReady S.Space space.old }
     ensures pairs { IfOk result (λ found. (store : Store) (content : Values)
         → Meets store root.0 (S.seen space.old) (S.seen space.new) content → found ≡ take limit (pairs_above (option_copied after.entry) content)) }
-    ensures fault { IfErr result (IsRangeFault root.0 (S.seen space.old) (S.seen space.new) (S.faults space.old) (S.faults space.new) (S.tells space.old)) }
+    ensures whole { IfOk result (λ found. WalksWhole root.0 (unwrap_or (option_copied after.entry) (0 ∷ [])) limit found (S.seen space.old) (S.seen space.new)) }
+    ensures fault { IfErr result (IsRangeFault root.0 (unwrap_or (option_copied after.entry) (0 ∷ [])) (S.seen space.old) (S.seen space.new)) }
+    ensures within { OnOk result (ReadsRange root.0 (unwrap_or (option_copied after.entry) (0 ∷ [])) (S.seen space.old) (S.seen space.new)) }
     ensures reads { OnlyRead (S.seen space.old) (S.seen space.new) }
-    ensures later { S.faults space.old ≤ S.faults space.new }
-    ensures tells { S.tells space.new ≡ S.tells space.old }
-    ensures ready { IsTrue (S.ready space.new) }
+    ensures call { IsCall S.Space space.old space.new (space_fault result) }
 {
     let mut found = Pairs::new(alloc);
     let least = Bounds::root(alloc)?;

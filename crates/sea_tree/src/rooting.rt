@@ -1,22 +1,26 @@
 //! Settling the root of a tree whose entries changed: what is to be written of it.
-ghost use Rattle.std.specs.Prelude.{◌≡◌, ◌+◌, ◌<◌, ◌≤◌, ◌++◌, ◌⊎◌, ◌^◌, [], List, IfOk, IfErr, OnOk, IsTrue, length};
+ghost use Rattle.std.specs.Prelude.{◌≡◌, ◌+◌, ◌<◌, ◌≤◌, ◌++◌, ◌⊎◌, ◌^◌, [], None, List, IfOk, IfErr, OnOk, IsTrue, length};
 ghost use Rattle.std.specs.Option.{option_copied};
-ghost use Rattle.sea_base.specs.Faults.{IsCause};
-ghost use Rattle.sea_base.specs.Space.{Store, Agrees, laid, IsKnown, OnlyRead};
+ghost use Rattle.sea_base.specs.declared.space.SpaceFault.TheVariants.{NoMemory as OutOfMemory};
+ghost use Rattle.sea_base.specs.Space.{Store, Agrees, laid, IsKnown, OnlyRead, ReadsAtMost};
 ghost use Rattle.sea_node.specs.Entries.{size};
 ghost use Rattle.sea_tree.specs.Tree.{root_bounds};
 ghost use Rattle.sea_tree.specs.Breaks.{HasNode};
 ghost use Rattle.sea_tree.specs.Does.{Change, Does, overlaid};
-ghost use Rattle.sea_tree.specs.Plan.{change_of, changes_of, count_filled};
+ghost use Rattle.sea_tree.specs.Plan.{change_of, changes_of, count_filled, plan_changes, plan_fills, CanSplice};
 ghost use Rattle.sea_tree.specs.Mending.{after_edit, IsNearPlace};
-ghost use Rattle.sea_tree.specs.Calls.{IsRootSettleFault, IsOfSpace};
+ghost use Rattle.sea_tree.specs.Calls.{IsRootSettleFault, IsUnchanged};
+ghost use Rattle.sea_tree.specs.Reads.{ReadsChild, ReadsNothing, ReadsRootChild};
 ghost use Rattle.sea_tree.specs.Changing.{root_entries, RootSplits, RootSinks, RootSettled};
+ghost use Rattle.sea_base.specs.Ghosts.{IsReady, IsCall};
+ghost use Rattle.sea_tree.specs.Calls.{space_fault};
+ghost use Rattle.std.specs.Result.{result_err};
 
 use crate::TreeFault;
 use crate::cut::{halves, size_of};
 use crate::edit::Edit;
 use crate::place::{Bounds, MOST_BYTES, address_of, value_of};
-use crate::plan::{Plan, Write, plan_edit, plan_gone, plan_node};
+use crate::plan::{Plan, Write, Writes, plan_edit, plan_gone, plan_node};
 use sea_base::{Block, Duplicate, Laddr, NoMemory, Pairs, Space, SpaceFault};
 use sea_node::Node;
 use std::alloc::Global;
@@ -34,23 +38,24 @@ pub(crate) fn settle_root<S: Space>(
     node: &Node,
     edit: Edit,
 ) -> Result<(), TreeFault>
-    requires ready { IsTrue (S.ready space.old) }
+    requires ready { IsReady S.Space space.old }
     requires room { (S.seen space.old).next < 2 ^ 62 + 2 ^ 47 }
     requires known { IsKnown (S.seen space.old) root.0 }
     requires node { HasNode (S.seen space.old).view node.now.level root.0 root_bounds node.now.entries }
+    requires first { plan.old.splice ≡ None }
     requires near { IsNearPlace node.now.level root_bounds (after_edit edit node.now.entries) }
     requires grown { 1 ≤ node.now.level → size (after_edit edit node.now.entries) ≤ size node.now.entries + 75 }
-    ensures settled { OnOk result ((changes : List Change) × (changes_of plan.new ≡ changes ++ changes_of plan.old)
-        × RootSettled node.now.level root.0 (after_edit edit node.now.entries) (S.seen space.old) (S.seen space.new) (changes_of plan.old) changes) }
-    ensures few { OnOk result (count_filled plan.new ≤ count_filled plan.old + 3) }
-    ensures fault { IfErr result (IsRootSettleFault root.0 (S.seen space.old) (S.seen space.new) (S.faults space.old) (S.faults space.new) (S.tells space.old)) }
+    ensures settled { OnOk result ((changes : List Change) × (plan_changes plan.new ≡ changes ++ plan_changes plan.old)
+        × RootSettled node.now.level root.0 (after_edit edit node.now.entries) (S.seen space.old) (S.seen space.new) (plan_changes plan.old) changes) }
+    ensures few { OnOk result (plan_fills plan.new ≤ plan_fills plan.old + 3) }
+    ensures spliced { OnOk result (CanSplice (S.seen space.new) plan.new) }
+    ensures fault { IfErr result (IsRootSettleFault root.0 (S.seen space.old) (S.seen space.new)) }
+    ensures within { OnOk result (ReadsRootChild node.now.level node.now.entries (S.seen space.old) (S.seen space.new)) }
     ensures reads { OnOk result (Does [] (S.seen space.old) (S.seen space.new)) }
-    ensures broken { IfErr result (λ fault. IsOfSpace fault ⊎ Does [] (S.seen space.old) (S.seen space.new)) }
+    ensures unchanged { IfErr result (IsUnchanged (S.seen space.old) (S.seen space.new)) }
     ensures rises { (S.seen space.old).next ≤ (S.seen space.new).next }
     ensures next { (S.seen space.new).next ≤ (S.seen space.old).next + 2 }
-    ensures later { S.faults space.old ≤ S.faults space.new }
-    ensures tells { S.tells space.new ≡ S.tells space.old }
-    ensures ready { IsTrue (S.ready space.new) }
+    ensures call { IsCall S.Space space.old space.new (space_fault result) }
 {
     let edited = Node {
         level: node.level,
@@ -61,13 +66,13 @@ pub(crate) fn settle_root<S: Space>(
         if edited.level == TOP_LEVEL {
             return Err(TreeFault::Broken { at: root });
         }
-        return Ok(split_root(alloc, space, plan, root, &edited)?);
+        return Ok(split_root(alloc, space, &mut plan.writes, root, &edited)?);
     }
     if entries.is_empty() {
-        return Ok(plan_gone(plan, root)?);
+        return Ok(plan_gone(&mut plan.writes, root)?);
     }
     if edited.level > 0 && entries.len() == 1 {
-        return Ok(sink_root(space, plan, root, &edited)?);
+        return Ok(sink_root(space, &mut plan.writes, root, &edited)?);
     }
     Ok(plan_edit(alloc, plan, root, node, edit, &edited)?)
 }
@@ -76,36 +81,35 @@ pub(crate) fn settle_root<S: Space>(
 fn split_root<S: Space>(
     alloc: Global,
     space: &mut S,
-    plan: &mut Plan,
+    writes: &mut Writes,
     root: Laddr,
     node: &Node,
 ) -> Result<(), SpaceFault>
-    requires ready { IsTrue (S.ready space.old) }
+    requires ready { IsReady S.Space space.old }
     requires room { (S.seen space.old).next < 2 ^ 62 + 2 ^ 47 }
     requires near { IsNearPlace node.now.level root_bounds node.now.entries }
     requires large { 4064 < size node.now.entries }
     requires low { node.now.level < 7 }
-    ensures split { OnOk result ((changes : List Change) × (changes_of plan.new ≡ changes ++ changes_of plan.old)
+    ensures split { OnOk result ((changes : List Change) × (changes_of writes.new ≡ changes ++ changes_of writes.old)
         × RootSplits node.now.level root.0 node.now.entries (S.seen space.old) (S.seen space.new) changes) }
-    ensures few { OnOk result (count_filled plan.new ≡ count_filled plan.old + 3) }
-    ensures fault { IfErr result (IsCause (S.faults space.old) (S.faults space.new) (S.tells space.old)) }
+    ensures few { OnOk result (count_filled writes.new ≡ count_filled writes.old + 3) }
+    ensures memory { IfErr result (λ fault. fault ≡ OutOfMemory) }
+    ensures unread { OnOk result (ReadsNothing (S.seen space.old) (S.seen space.new)) }
     ensures reads { OnOk result (Does [] (S.seen space.old) (S.seen space.new)) }
     ensures rises { (S.seen space.old).next ≤ (S.seen space.new).next }
     ensures next { (S.seen space.new).next ≤ (S.seen space.old).next + 2 }
-    ensures later { S.faults space.old ≤ S.faults space.new }
-    ensures tells { S.tells space.new ≡ S.tells space.old }
-    ensures ready { IsTrue (S.ready space.new) }
+    ensures call { IsCall S.Space space.old space.new (result_err result) }
 {
     let (front, back) = halves(alloc, node)?;
     let left = space.alloc(2)?;
     let right = Laddr(left.0 + 1);
-    plan_node(alloc, plan, left, &front)?;
-    plan_node(alloc, plan, right, &back)?;
+    plan_node(alloc, writes, left, &front)?;
+    plan_node(alloc, writes, right, &back)?;
     let over = Node {
         level: node.level + 1,
         entries: entries_over(alloc, left, right, &back)?,
     };
-    Ok(plan_node(alloc, plan, root, &over)?)
+    Ok(plan_node(alloc, writes, root, &over)?)
 }
 
 // The entries of a root over two nodes.
@@ -125,43 +129,39 @@ fn entries_over(alloc: Global, left: Laddr, right: Laddr, back: &Node) -> Result
 // Plans to lower the tree: the root takes what is to stand at its one child.
 fn sink_root<S: Space>(
     space: &mut S,
-    plan: &mut Plan,
+    writes: &mut Writes,
     root: Laddr,
     node: &Node,
 ) -> Result<(), SpaceFault>
-    requires ready { IsTrue (S.ready space.old) }
+    requires ready { IsReady S.Space space.old }
     requires near { IsNearPlace node.now.level root_bounds node.now.entries }
     requires above { 1 ≤ node.now.level }
     requires one { length node.now.entries ≡ 1 }
-    ensures sunk { OnOk result ((changes : List Change) × (changes_of plan.new ≡ changes ++ changes_of plan.old)
-        × RootSinks node.now.level root.0 node.now.entries (S.seen space.old) (S.seen space.new) (changes_of plan.old) changes) }
-    ensures few { OnOk result (count_filled plan.new ≤ count_filled plan.old + 1) }
-    ensures fault { IfErr result (IsCause (S.faults space.old) (S.faults space.new) (S.tells space.old)) }
+    ensures sunk { OnOk result ((changes : List Change) × (changes_of writes.new ≡ changes ++ changes_of writes.old)
+        × RootSinks node.now.level root.0 node.now.entries (S.seen space.old) (S.seen space.new) (changes_of writes.old) changes) }
+    ensures few { OnOk result (count_filled writes.new ≤ count_filled writes.old + 1) }
+    ensures within { OnOk result (ReadsChild node.now.entries (S.seen space.old) (S.seen space.new)) }
     ensures reads { OnlyRead (S.seen space.old) (S.seen space.new) }
-    ensures later { S.faults space.old ≤ S.faults space.new }
-    ensures tells { S.tells space.new ≡ S.tells space.old }
-    ensures ready { IsTrue (S.ready space.new) }
+    ensures call { IsCall S.Space space.old space.new (result_err result) }
 {
     let child = address_of(&node.entries.items()[0].1);
-    match planned(space, plan, child)? {
-        Some(block) => plan.push(Write::Whole { at: root, block })?,
-        None => plan_gone(plan, root)?,
+    match planned(space, writes, child)? {
+        Some(block) => writes.push(Write::Whole { at: root, block })?,
+        None => plan_gone(writes, root)?,
     }
-    Ok(plan_gone(plan, child)?)
+    Ok(plan_gone(writes, child)?)
 }
 
 // What stands at an address once the plan is carried out.
-fn planned<S: Space>(space: &mut S, plan: &Plan, at: Laddr) -> Result<Option<Block>, SpaceFault>
-    requires { IsTrue (S.ready space.old) }
+fn planned<S: Space>(space: &mut S, writes: &Writes, at: Laddr) -> Result<Option<Block>, SpaceFault>
+    requires { IsReady S.Space space.old }
     ensures block { IfOk result (λ block. (store : Store) → Agrees store (S.seen space.new)
-        → block ≡ overlaid (changes_of plan.now) (laid (S.seen space.old) store) at.0) }
-    ensures fault { IfErr result (IsCause (S.faults space.old) (S.faults space.new) (S.tells space.old)) }
+        → block ≡ overlaid (changes_of writes.now) (laid (S.seen space.old) store) at.0) }
+    ensures one { ReadsAtMost at.0 (S.seen space.old) (S.seen space.new) }
     ensures reads { OnlyRead (S.seen space.old) (S.seen space.new) }
-    ensures later { S.faults space.old ≤ S.faults space.new }
-    ensures tells { S.tells space.new ≡ S.tells space.old }
-    ensures ready { IsTrue (S.ready space.new) }
+    ensures call { IsCall S.Space space.old space.new (result_err result) }
 {
-    for write in plan.items().iter().rev() {
+    for write in writes.items().iter().rev() {
         let (written, block) = left_by(write);
         if written == at {
             return Ok(match block {
@@ -179,7 +179,6 @@ fn left_by(write: &Write) -> (Laddr, Option<&Block>)
 {
     match write {
         Write::Whole { at, block } => (*at, Some(block)),
-        Write::Spliced { at, splice } => (*at, Some(&splice.block)),
         Write::Gone { at } => (*at, None),
     }
 }

@@ -1,22 +1,22 @@
 //! Reading a whole tree, and dropping it.
-ghost use Rattle.std.specs.Prelude.{◌≡◌, ℕ, ◌≤◌, List, None, IfOk, IfErr, OnOk, IsTrue, length};
+ghost use Rattle.std.specs.Prelude.{◌≡◌, ◌∷◌, ℕ, ◌≤◌, List, None, IfOk, IfErr, OnOk, IsTrue, length};
 ghost use Rattle.std.specs.Option.{option_copied};
 ghost use Rattle.std.specs.FinMap as map;
 ghost use Rattle.sea_base.specs.Space.{Store, OnlyRead, laid, Agrees};
 ghost use Rattle.sea_node.specs.Entries.{Values};
 ghost use Rattle.sea_node.specs.Node.{IsNode};
-ghost use Rattle.sea_tree.specs.Tree.{IsNodeOf};
-ghost use Rattle.sea_tree.specs.Calls.{Meets, Becomes, IsWalkFault, IsWalked};
+ghost use Rattle.sea_tree.specs.Tree.{IsTree, IsNodeOf};
+ghost use Rattle.sea_tree.specs.Calls.{Meets, Becomes, DropsOwn, IsUnchanged, IsWalkFault, IsWalked};
+ghost use Rattle.sea_tree.specs.Reads.{ReadsListed, ReadsTree};
 ghost use Rattle.sea_tree.specs.Walk.{addresses, Adds, IsUnderFault};
+ghost use Rattle.sea_base.specs.Ghosts.{IsReady, IsCall};
+ghost use Rattle.sea_tree.specs.Calls.{space_fault};
 
 use crate::TreeFault;
 use crate::place::{Bounds, child_at, node_at, root_at};
 use sea_base::{Addresses, Key, Laddr, Sequence, Space};
 use sea_node::Node;
 use std::alloc::Global;
-
-#[cfg(test)]
-mod tests;
 
 /// What a walk through a tree has met so far.
 #[derive(Debug, Drop)]
@@ -35,14 +35,13 @@ fn walk_below<S: Space>(
     upper: Option<&Key>,
     walk: &mut Walk,
 ) -> Result<(), TreeFault>
-    requires ready { IsTrue (S.ready space.old) }
+    requires ready { IsReady S.Space space.old }
     requires node { IsNode node.now.level node.now.entries }
     ensures adds { OnOk result (Adds node.now.level node.now.entries (option_copied upper.entry) (S.seen space.old) (S.seen space.new) walk.old walk.new) }
-    ensures fault { IfErr result (IsUnderFault node.now.level node.now.entries (option_copied upper.entry) (S.seen space.old) (S.seen space.new) (S.faults space.old) (S.faults space.new) (S.tells space.old)) }
+    ensures fault { IfErr result (IsUnderFault node.now.level node.now.entries (option_copied upper.entry) (S.seen space.old) (S.seen space.new)) }
+    ensures listed { OnOk result (ReadsListed (addresses walk.new) (S.seen space.old) (S.seen space.new)) }
     ensures reads { OnlyRead (S.seen space.old) (S.seen space.new) }
-    ensures later { S.faults space.old ≤ S.faults space.new }
-    ensures tells { S.tells space.new ≡ S.tells space.old }
-    ensures ready { IsTrue (S.ready space.new) }
+    ensures call { IsCall S.Space space.old space.new (space_fault result) }
 {
     let entries = node.entries.items();
     if node.level == 0 {
@@ -61,14 +60,13 @@ fn walk_below<S: Space>(
 
 // Walks through a whole tree.
 fn walk_tree<S: Space>(alloc: Global, space: &mut S, root: Laddr) -> Result<Walk, TreeFault>
-    requires { IsTrue (S.ready space.old) }
+    requires { IsReady S.Space space.old }
     ensures walked { IfOk result (λ walk. (store : Store) → Agrees store (S.seen space.new)
         → IsWalked (laid (S.seen space.old) store) root.0 walk.pairs (addresses walk)) }
-    ensures fault { IfErr result (IsWalkFault root.0 (S.seen space.old) (S.seen space.new) (S.faults space.old) (S.faults space.new) (S.tells space.old)) }
+    ensures fault { IfErr result (IsWalkFault root.0 (S.seen space.old) (S.seen space.new)) }
+    ensures listed { IfOk result (λ walk. ReadsListed (root.0 ∷ addresses walk) (S.seen space.old) (S.seen space.new)) }
     ensures reads { OnlyRead (S.seen space.old) (S.seen space.new) }
-    ensures later { S.faults space.old ≤ S.faults space.new }
-    ensures tells { S.tells space.new ≡ S.tells space.old }
-    ensures ready { IsTrue (S.ready space.new) }
+    ensures call { IsCall S.Space space.old space.new (space_fault result) }
 {
     let mut walk = Walk {
         pairs: 0,
@@ -93,14 +91,13 @@ pub struct Checked {
 
 /// Ok exactly where the tree is well formed, with the counts of its pairs and nodes.
 pub fn check<S: Space>(alloc: Global, space: &mut S, root: Laddr) -> Result<Checked, TreeFault>
-    requires { IsTrue (S.ready space.old) }
+    requires { IsReady S.Space space.old }
     ensures whole { IfOk result (λ checked. (store : Store) → Agrees store (S.seen space.new)
         → (nodes : List ℕ) × (checked.nodes ≡ length nodes) × IsWalked (laid (S.seen space.old) store) root.0 checked.pairs nodes) }
-    ensures fault { IfErr result (IsWalkFault root.0 (S.seen space.old) (S.seen space.new) (S.faults space.old) (S.faults space.new) (S.tells space.old)) }
+    ensures fault { IfErr result (IsWalkFault root.0 (S.seen space.old) (S.seen space.new)) }
+    ensures within { OnOk result (ReadsTree root.0 (S.seen space.old) (S.seen space.new)) }
     ensures reads { OnlyRead (S.seen space.old) (S.seen space.new) }
-    ensures later { S.faults space.old ≤ S.faults space.new }
-    ensures tells { S.tells space.new ≡ S.tells space.old }
-    ensures ready { IsTrue (S.ready space.new) }
+    ensures call { IsCall S.Space space.old space.new (space_fault result) }
 {
     let walk = walk_tree(alloc, space, root)?;
     Ok(Checked {
@@ -111,15 +108,17 @@ pub fn check<S: Space>(alloc: Global, space: &mut S, root: Laddr) -> Result<Chec
 
 /// Leaves nothing at any address of the tree.
 pub fn drop_all<S: Space>(alloc: Global, space: &mut S, root: Laddr) -> Result<(), TreeFault>
-    requires { IsTrue (S.ready space.old) }
+    requires { IsReady S.Space space.old }
     ensures gone { OnOk result ((store : Store) (content : Values)
         → Meets store root.0 (S.seen space.old) (S.seen space.new) content
         → Becomes store root.0 (S.seen space.old) (S.seen space.new) map.empty × ((at : ℕ) → IsNodeOf (laid (S.seen space.old) store) root.0 at → laid (S.seen space.new) store at ≡ None)) }
-    ensures fault { IfErr result (IsWalkFault root.0 (S.seen space.old) (S.seen space.new) (S.faults space.old) (S.faults space.new) (S.tells space.old)) }
+    ensures fault { IfErr result (IsWalkFault root.0 (S.seen space.old) (S.seen space.new)) }
+    ensures whole { OnOk result ((store : Store) → Agrees store (S.seen space.new) → IsTree (laid (S.seen space.old) store) root.0) }
+    ensures within { OnOk result (ReadsTree root.0 (S.seen space.old) (S.seen space.new)) }
+    ensures own { OnOk result (DropsOwn root.0 (S.seen space.old) (S.seen space.new)) }
+    ensures unchanged { IfErr result (IsUnchanged (S.seen space.old) (S.seen space.new)) }
     ensures next { (S.seen space.new).next ≡ (S.seen space.old).next }
-    ensures later { S.faults space.old ≤ S.faults space.new }
-    ensures tells { S.tells space.new ≡ S.tells space.old }
-    ensures ready { IsTrue (S.ready space.new) }
+    ensures call { IsCall S.Space space.old space.new (space_fault result) }
 {
     let walk = walk_tree(alloc, space, root)?;
     for at in walk.nodes.items() {

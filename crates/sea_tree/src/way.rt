@@ -1,9 +1,12 @@
 //! The way from the root of a tree to a leaf.
-ghost use Rattle.std.specs.Prelude.{◌≡◌, ℕ, ◌+◌, ◌<◌, ◌≤◌, None, IsTrue, IfOk, IfSome, IfNone, IfErr, OnOk, List};
+ghost use Rattle.std.specs.Prelude.{◌≡◌, ℕ, ◌+◌, ◌<◌, ◌≤◌, None, IsTrue, MatchOption, IfOk, IfSome, IfNone, IfErr, OnOk, List};
 ghost use Rattle.sea_base.specs.Space.{IsKnown, OnlyRead};
-ghost use Rattle.sea_tree.specs.Calls.{IsWayFault, IsWholeWay, IsRangeFault};
+ghost use Rattle.sea_tree.specs.Calls.{IsWayFault, IsWholeWay};
+ghost use Rattle.sea_tree.specs.Reads.{ReadsWay, ReadsNothing};
 ghost use Rattle.sea_tree.specs.Range.{IsNextWay};
 ghost use Rattle.sea_tree.specs.Way.{IsKnownWay};
+ghost use Rattle.sea_base.specs.Ghosts.{IsReady, IsCall};
+ghost use Rattle.sea_tree.specs.Calls.{space_fault};
 
 use crate::TreeFault;
 use crate::place::{Bounds, child_at, index_towards, node_at, root_at};
@@ -60,16 +63,15 @@ pub(crate) fn way_to<S: Space>(
     root: Laddr,
     key: &Key,
 ) -> Result<Option<Way>, TreeFault>
-    requires { IsTrue (S.ready space.old) }
+    requires { IsReady S.Space space.old }
     ensures way { IfOk result (λ found. IfSome found (IsKnownWay (S.seen space.new) root.0 key.now)) }
     ensures none { IfOk result (λ found. IfNone found ((S.seen space.new).view root.0 ≡ None)) }
     ensures known { OnOk result (IsKnown (S.seen space.new) root.0) }
     ensures whole { OnOk result (IsWholeWay root.0 key.now (S.seen space.old) (S.seen space.new)) }
-    ensures fault { IfErr result (IsWayFault root.0 key.now (S.seen space.old) (S.seen space.new) (S.faults space.old) (S.faults space.new) (S.tells space.old)) }
+    ensures fault { IfErr result (IsWayFault root.0 key.now (S.seen space.old) (S.seen space.new)) }
+    ensures within { ReadsWay root.0 key.now (S.seen space.old) (S.seen space.new) }
     ensures reads { OnlyRead (S.seen space.old) (S.seen space.new) }
-    ensures later { S.faults space.old ≤ S.faults space.new }
-    ensures tells { S.tells space.new ≡ S.tells space.old }
-    ensures ready { IsTrue (S.ready space.new) }
+    ensures call { IsCall S.Space space.old space.new (space_fault result) }
 {
     prove!(!key.bytes().is_empty());
     let Some(mut node) = root_at(alloc, space, root)? else {
@@ -109,15 +111,14 @@ pub(crate) fn way_after<S: Space>(
     root: Laddr,
     way: &Way,
 ) -> Result<Option<Way>, TreeFault>
-    requires ready { IsTrue (S.ready space.old) }
+    requires ready { IsReady S.Space space.old }
     requires way { (key : List ℕ) × IsKnownWay (S.seen space.old) root.0 key way.now }
     ensures next { IfOk result (λ found. IfSome found (IsNextWay (S.seen space.new) root.0 way.now)) }
     ensures none { IfOk result (λ found. IfNone found (way.now.bounds.upper ≡ None)) }
-    ensures fault { IfErr result (IsRangeFault root.0 (S.seen space.old) (S.seen space.new) (S.faults space.old) (S.faults space.new) (S.tells space.old)) }
+    ensures fault { IfErr result (λ fault. MatchOption way.now.bounds.upper ⊥ (λ upper. IsWayFault root.0 upper (S.seen space.old) (S.seen space.new) fault)) }
+    ensures within { MatchOption way.now.bounds.upper (ReadsNothing (S.seen space.old) (S.seen space.new)) (λ upper. ReadsWay root.0 upper (S.seen space.old) (S.seen space.new)) }
     ensures reads { OnlyRead (S.seen space.old) (S.seen space.new) }
-    ensures later { S.faults space.old ≤ S.faults space.new }
-    ensures tells { S.tells space.new ≡ S.tells space.old }
-    ensures ready { IsTrue (S.ready space.new) }
+    ensures call { IsCall S.Space space.old space.new (space_fault result) }
 {
     let Some(upper) = &way.bounds.upper else {
         return Ok(None);

@@ -74,6 +74,12 @@ impl MapTree {
         Ok(self.space.get(at)?)
     }
 
+    /// Places a block at an address.
+    #[cfg(test)]
+    pub fn place(&mut self, at: Laddr, block: Block) -> Result<(), TrialFault> {
+        Ok(self.space.put(at, block)?)
+    }
+
     /// The root's level, which its byte 4 tells, or 0 where the tree is empty.
     pub fn level(&mut self) -> Result<u8, TrialFault> {
         match self.block_at(ROOT)? {

@@ -1,16 +1,22 @@
+ghost use Rattle.std.specs.Prelude.{◌≡◌, IfOk, length};
+
 mod counting;
 mod dice;
 mod faults;
+mod leaves;
 mod mending;
+mod nodes;
 mod plain;
 mod random;
 mod rows;
+mod spaces;
 mod tall;
 mod twin;
+mod values;
 
 use crate::fault::TrialFault;
 use crate::map_tree::{MapTree, ROOT};
-use sea_base::{BLOCK_BYTES, Data, Key, Laddr, Nths};
+use sea_base::{BLOCK_BYTES, Block, Data, Key, Laddr, Nths};
 use std::alloc::Global;
 
 // An empty tree, of whose gets none fails.
@@ -71,8 +77,10 @@ fn bytes_at(alloc: Global, tree: &mut MapTree, at: Laddr) -> Result<Vec<u8>, Tri
     }
 }
 
-// The block of a node of a level, with these bytes of entries.
-fn block_of(alloc: Global, level: u8, entries: &[u8]) -> Result<Vec<u8>, TrialFault> {
+// The bytes of a node of a level, with these bytes of entries.
+fn block_of(alloc: Global, level: u8, entries: &[u8]) -> Result<Vec<u8>, TrialFault>
+    ensures { IfOk result (λ bytes. length bytes.items ≡ 4096) }
+{
     let mut bytes = Vec::new(alloc);
     bytes.extend_from_slice(b"SNOD")?;
     bytes.push(level)?;
@@ -80,6 +88,11 @@ fn block_of(alloc: Global, level: u8, entries: &[u8]) -> Result<Vec<u8>, TrialFa
     bytes.extend_from_slice(entries)?;
     bytes.resize(BLOCK_BYTES, 0)?;
     Ok(bytes)
+}
+
+// The same, as a block.
+fn node_block(alloc: Global, level: u8, entries: &[u8]) -> Result<Block, TrialFault> {
+    Ok(Block::from_vec(block_of(alloc, level, entries)?)?)
 }
 
 // The entries of a root over the nodes at 2 and 3, which this separator of so many bytes leads to.

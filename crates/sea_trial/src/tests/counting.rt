@@ -1,5 +1,6 @@
 ghost use Rattle.std.specs.Prelude.{true};
-ghost use Rattle.sea_base.specs.MapSpace.{seen_of, seen_sound};
+ghost use Rattle.std.proofs.Common.{refl, ◌∙◌};
+ghost use Rattle.sea_base.specs.MapSpace.{seen_of, none_current, KeepsListed, seen_sound, shows_nothing};
 
 use crate::fault::TrialFault;
 use crate::keys::key_of;
@@ -19,13 +20,21 @@ struct CountingSpace {
 impl Space for CountingSpace {
     ghost seen = { λ counting. seen_of counting.space };
 
+    ghost current = { λ counting. none_current counting.space };
+
     ghost faults = { λ counting. ⟦<MapSpace as Space>⟧.faults counting.space };
 
     ghost tells = { λ counting. true };
 
     ghost ready = { λ counting. true };
 
+    ghost keeps = { λ old new. KeepsListed old.space new.space };
+
     ghost sound = { λ counting. seen_sound counting.space };
+
+    ghost frame = { record { reflexive = λ s. refl; transitive = λ a b c first later. later ∙ first; shared = λ a b kept at. refl } };
+
+    ghost shows = { λ counting _. shows_nothing counting.space };
 
     fn get(&mut self, at: Laddr) -> Result<Option<Block>, SpaceFault> {
         self.gets = self.gets.saturating_add(1);

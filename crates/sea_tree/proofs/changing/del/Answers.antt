@@ -1,37 +1,50 @@
-use Rattle.std.proofs.Common.{◌≡◌, None, sym, ◌∙◌, arith}
+use Rattle.std.proofs.Common.{◌≡◌, [], None, sym, ◌∙◌, arith}
+use Rattle.sea_base.proofs.Calling.{call_then}
 use Rattle.std.proofs.lemmas.Result.{err_from_is_err_and}
 use Rattle.std.specs.FinMap.Entries.{find}
 use Rattle.sea_base.specs.Space.{Seen}
 use Rattle.sea_node.specs.Entries.{key_order}
-use Rattle.sea_tree.specs.Plan.{changes_of, count_filled}
-use Rattle.sea_tree.proofs.Doing.{ChangesAtMost-read}
+use Rattle.sea_tree.specs.Plan.{plan_changes, plan_fills}
+use Rattle.sea_tree.proofs.Doing.{Does-read, ChangesAtMost-read}
 use Rattle.sea_tree.proofs.Leaves.{known_find, known_empty}
-use Rattle.sea_tree.proofs.Puts.{way_fault, fault_since, of_space, Run, run_becomes, nothing_changes, fewer, run_few, run_whole, run_agrees}
+use Rattle.sea_tree.proofs.Performing.{read_unchanged, unchanged_since, once_since, once_none, placed_none}
+use Rattle.sea_tree.proofs.Nears.{run_near, way_near}
+use Rattle.sea_tree.proofs.Puts.{way_fault, fault_since, of_space, Run, run_becomes, nothing_changes, fewer, run_few, run_touches, run_whole, run_agrees}
 use Rattle.sea_tree.proofs.changing.del.Goals as goal
 
 pub returns-in_err-way-clause-fault : goal.returns-in_err-way-clause-fault
 returns-in_err-way-clause-fault g c =
     let p = err_from_is_err_and c.from_residual.result c.from_residual.ensures.1 in
-    rw (p.1, p.2) (way_fault c.args.root.0 c.args.key.now (g.S.Space.seen c.args.space.now) (g.S.Space.seen c.way_to.new.space) (g.S.Space.faults c.args.space.now) (g.S.Space.faults c.way_to.new.space) (g.S.Space.tells c.args.space.now) c.in_err-way.field-0.0 c.in_err-way.ensures.fault)
+    rw (p.1, p.2) (way_fault c.args.root.0 c.args.key.now (g.S.Space.seen c.args.space.now) (g.S.Space.seen c.way_to.new.space) c.in_err-way.field-0.0 c.in_err-way.ensures.fault)
 
 pub returns-in_err-way-clause-never_full : goal.returns-in_err-way-clause-never_full
 returns-in_err-way-clause-never_full g c =
     let p = err_from_is_err_and c.from_residual.result c.from_residual.ensures.1 in
-    rw (p.1, p.2) (of_space c.args.root.0 (g.S.Space.seen c.args.space.now) (g.S.Space.seen c.way_to.new.space) (g.S.Space.faults c.args.space.now) (g.S.Space.faults c.way_to.new.space) (g.S.Space.tells c.args.space.now) c.in_err-way.field-0.0
-    (way_fault c.args.root.0 c.args.key.now (g.S.Space.seen c.args.space.now) (g.S.Space.seen c.way_to.new.space) (g.S.Space.faults c.args.space.now) (g.S.Space.faults c.way_to.new.space) (g.S.Space.tells c.args.space.now) c.in_err-way.field-0.0 c.in_err-way.ensures.fault))
+    rw (p.1, p.2) (of_space c.args.root.0 c.args.key.now (g.S.Space.seen c.args.space.now) (g.S.Space.seen c.way_to.new.space) c.in_err-way.field-0.0
+    (way_fault c.args.root.0 c.args.key.now (g.S.Space.seen c.args.space.now) (g.S.Space.seen c.way_to.new.space) c.in_err-way.field-0.0 c.in_err-way.ensures.fault))
+
+pub returns-in_err-way-clause-unchanged : goal.returns-in_err-way-clause-unchanged
+returns-in_err-way-clause-unchanged g c =
+    let p = err_from_is_err_and c.from_residual.result c.from_residual.ensures.1 in
+    rw (p.1, p.2) (read_unchanged (Does-read c.in_err-way.ensures.reads) c.in_err-way.field-0.0)
+
+pub returns-in_err-plan-clause-unchanged : goal.returns-in_err-plan-clause-unchanged
+returns-in_err-plan-clause-unchanged g c =
+    let p = err_from_is_err_and c.from_residual-in_err-plan.result c.from_residual-in_err-plan.ensures.1 in
+    rw (p.1, p.2) (unchanged_since (Does-read c.in_ok-way.ensures.reads) _ c.in_err-plan.field-0.0 c.in_err-plan.ensures.unchanged)
 
 pub returns-in_err-plan-clause-fault : goal.returns-in_err-plan-clause-fault
 returns-in_err-plan-clause-fault g c =
     let p = err_from_is_err_and c.from_residual-in_err-plan.result c.from_residual-in_err-plan.ensures.1 in
-    rw (p.1, p.2) (fault_since c.args.root.0 (g.S.Space.seen c.args.space.now) (g.S.Space.seen c.way_to.new.space) (g.S.Space.seen c.mended.new.space) (g.S.Space.faults c.args.space.now) (g.S.Space.faults c.way_to.new.space) (g.S.Space.faults c.mended.new.space) (g.S.Space.tells c.args.space.now) (g.S.Space.tells c.way_to.new.space)
-    c.in_ok-way.ensures.reads c.in_ok-way.ensures.later c.in_ok-way.ensures.tells c.in_err-plan.field-0.0 c.in_err-plan.ensures.fault)
+    rw (p.1, p.2) (fault_since c.args.root.0 c.args.key.now (g.S.Space.seen c.args.space.now) (g.S.Space.seen c.way_to.new.space) (g.S.Space.seen c.mended.new.space)
+    c.in_ok-way.ensures.reads c.in_ok-way.ensures.whole c.in_err-plan.field-0.0 c.in_err-plan.ensures.unchanged c.in_err-plan.ensures.fault)
 
 pub returns-in_err-plan-clause-never_full : goal.returns-in_err-plan-clause-never_full
 returns-in_err-plan-clause-never_full g c =
     let p = err_from_is_err_and c.from_residual-in_err-plan.result c.from_residual-in_err-plan.ensures.1 in
-    rw (p.1, p.2) (of_space c.args.root.0 (g.S.Space.seen c.args.space.now) (g.S.Space.seen c.mended.new.space) (g.S.Space.faults c.args.space.now) (g.S.Space.faults c.mended.new.space) (g.S.Space.tells c.args.space.now) c.in_err-plan.field-0.0
-    (fault_since c.args.root.0 (g.S.Space.seen c.args.space.now) (g.S.Space.seen c.way_to.new.space) (g.S.Space.seen c.mended.new.space) (g.S.Space.faults c.args.space.now) (g.S.Space.faults c.way_to.new.space) (g.S.Space.faults c.mended.new.space) (g.S.Space.tells c.args.space.now) (g.S.Space.tells c.way_to.new.space)
-    c.in_ok-way.ensures.reads c.in_ok-way.ensures.later c.in_ok-way.ensures.tells c.in_err-plan.field-0.0 c.in_err-plan.ensures.fault))
+    rw (p.1, p.2) (of_space c.args.root.0 c.args.key.now (g.S.Space.seen c.args.space.now) (g.S.Space.seen c.mended.new.space) c.in_err-plan.field-0.0
+    (fault_since c.args.root.0 c.args.key.now (g.S.Space.seen c.args.space.now) (g.S.Space.seen c.way_to.new.space) (g.S.Space.seen c.mended.new.space)
+    c.in_ok-way.ensures.reads c.in_ok-way.ensures.whole c.in_err-plan.field-0.0 c.in_err-plan.ensures.unchanged c.in_err-plan.ensures.fault))
 
 pub returns-in_default-clause-changed : goal.returns-in_default-clause-changed
 returns-in_default-clause-changed g c store content meets =
@@ -63,7 +76,7 @@ returns-clause-changed g c store content meets =
     let mid : Seen = g.S.Space.seen c.way_to.new.space in
     let planned : Seen = g.S.Space.seen c.mended.new.space in
     let new : Seen = g.S.Space.seen c.perform.new.space in
-    let changes = changes_of c.in_ok-plan.plan in
+    let changes = plan_changes c.in_ok-plan.plan in
     let run : Run old mid planned new changes = record { reads = c.in_ok-way.ensures.reads; plans = c.in_ok-plan.ensures.reads; writes = c.in_ok-perform.ensures.done; next = c.in_ok-perform.ensures.next } in
     let way = rw c.in-Some.is at c.in_ok-way.ensures.way in
     let agrees = run_agrees old mid planned new changes run store meets.agrees in
@@ -79,7 +92,7 @@ returns-clause-whole g c =
     let mid : Seen = g.S.Space.seen c.way_to.new.space in
     let planned : Seen = g.S.Space.seen c.mended.new.space in
     let new : Seen = g.S.Space.seen c.perform.new.space in
-    let changes = changes_of c.in_ok-plan.plan in
+    let changes = plan_changes c.in_ok-plan.plan in
     let run : Run old mid planned new changes = record { reads = c.in_ok-way.ensures.reads; plans = c.in_ok-plan.ensures.reads; writes = c.in_ok-perform.ensures.done; next = c.in_ok-perform.ensures.next } in
     run_whole c.args.root.0 c.args.key.now old mid planned new changes run c.in_ok-way.ensures.whole
 
@@ -89,6 +102,51 @@ returns-clause-few g c =
     let mid : Seen = g.S.Space.seen c.way_to.new.space in
     let planned : Seen = g.S.Space.seen c.mended.new.space in
     let new : Seen = g.S.Space.seen c.perform.new.space in
-    let changes = changes_of c.in_ok-plan.plan in
+    let changes = plan_changes c.in_ok-plan.plan in
     let run : Run old mid planned new changes = record { reads = c.in_ok-way.ensures.reads; plans = c.in_ok-plan.ensures.reads; writes = c.in_ok-perform.ensures.done; next = c.in_ok-perform.ensures.next } in
-    run_few old mid planned new changes (count_filled c.in_ok-plan.plan) run c.in_ok-plan.ensures.few c.in_ok-perform.ensures.few
+    run_few old mid planned new changes (plan_fills c.in_ok-plan.plan) run c.in_ok-plan.ensures.few c.in_ok-perform.ensures.few
+
+pub returns-clause-own : goal.returns-clause-own
+returns-clause-own g c =
+    let old : Seen = g.S.Space.seen c.args.space.now in
+    let mid : Seen = g.S.Space.seen c.way_to.new.space in
+    let planned : Seen = g.S.Space.seen c.mended.new.space in
+    let new : Seen = g.S.Space.seen c.perform.new.space in
+    let changes = plan_changes c.in_ok-plan.plan in
+    let run : Run old mid planned new changes = record { reads = c.in_ok-way.ensures.reads; plans = c.in_ok-plan.ensures.reads; writes = c.in_ok-perform.ensures.done; next = c.in_ok-perform.ensures.next } in
+    run_touches c.args.root.0 old mid planned new changes run c.in_ok-plan.ensures.own
+
+pub returns-clause-form : goal.returns-clause-form
+returns-clause-form g c = record { read = g.S.Space.seen c.way_to.new.space; planned = g.S.Space.seen c.mended.new.space; changes = plan_changes c.in_ok-plan.plan; way = c.in-Some.way; reads = c.in_ok-way.ensures.reads; known = rw c.in-Some.is at c.in_ok-way.ensures.way; plans = c.in_ok-plan.ensures.reads; rises = c.in_ok-plan.ensures.form; writes = c.in_ok-perform.ensures.done; next = c.in_ok-perform.ensures.next }
+
+pub returns-clause-once : goal.returns-clause-once
+returns-clause-once g c = once_since (Does-read c.in_ok-way.ensures.reads) (once_since c.in_ok-plan.ensures.reads c.in_ok-perform.ensures.once)
+
+pub returns-in_default-clause-once : goal.returns-in_default-clause-once
+returns-in_default-clause-once g c = once_none [] (Does-read c.in_ok-way.ensures.reads) (placed_none (g.S.Space.seen c.way_to.new.space))
+
+pub returns-in_default-2-clause-once : goal.returns-in_default-2-clause-once
+returns-in_default-2-clause-once g c = once_none [] (Does-read c.in_ok-way.ensures.reads) (placed_none (g.S.Space.seen c.way_to.new.space))
+
+pub returns-clause-near : goal.returns-clause-near
+returns-clause-near g c =
+    run_near c.args.root.0 c.args.key.now (g.S.Space.seen c.args.space.now) (g.S.Space.seen c.way_to.new.space) (g.S.Space.seen c.mended.new.space) (g.S.Space.seen c.perform.new.space) c.in_ok-way.ensures.reads c.in_ok-way.ensures.within c.in_ok-plan.ensures.reads c.in_ok-plan.ensures.near (plan_changes c.in_ok-plan.plan) c.in_ok-perform.ensures.done c.in_ok-perform.ensures.unread
+
+pub returns-in_default-clause-near : goal.returns-in_default-clause-near
+returns-in_default-clause-near g c = way_near c.args.root.0 c.args.key.now (g.S.Space.seen c.args.space.now) (g.S.Space.seen c.way_to.new.space) c.in_ok-way.ensures.within
+
+pub returns-in_default-2-clause-near : goal.returns-in_default-2-clause-near
+returns-in_default-2-clause-near g c = way_near c.args.root.0 c.args.key.now (g.S.Space.seen c.args.space.now) (g.S.Space.seen c.way_to.new.space) c.in_ok-way.ensures.within
+
+pub returns-in_err-plan-clause-call : goal.returns-in_err-plan-clause-call
+returns-in_err-plan-clause-call g c =
+    let p = err_from_is_err_and c.from_residual-in_err-plan.result c.from_residual-in_err-plan.ensures.1 in
+    rw (p.1, p.2) (call_then g.S.Space g.met.S.Space.frame c.in_ok-way.ensures.call c.in_err-plan.ensures.call)
+
+pub returns-in_err-perform-clause-call : goal.returns-in_err-perform-clause-call
+returns-in_err-perform-clause-call g c =
+    let p = err_from_is_err_and c.from_residual-in_err-perform.result c.from_residual-in_err-perform.ensures.1 in
+    rw (p.1, p.2) (call_then g.S.Space g.met.S.Space.frame (call_then g.S.Space g.met.S.Space.frame c.in_ok-way.ensures.call c.in_ok-plan.ensures.call) c.in_err-perform.ensures.call)
+
+pub returns-clause-call : goal.returns-clause-call
+returns-clause-call g c = call_then g.S.Space g.met.S.Space.frame (call_then g.S.Space g.met.S.Space.frame c.in_ok-way.ensures.call c.in_ok-plan.ensures.call) c.in_ok-perform.ensures.call

@@ -10,7 +10,7 @@ returns-then-lookup-level-clause-fault g c =
     let here : (g.S.Space.seen c.get.new.self).view c.args.at.0 ≡ Some c.in-Some.block = search rules in
     let told = rw c.in-Some-2.is at c.in_ok-lookup.ensures.some in (
       refl,
-      c.in_ok-block.ensures.noted.here,
+      c.in_ok-block.ensures.known,
       IsBroken-other (g.S.Space.seen c.get.new.self).view c.args.level c.args.at.0 (meant c.args.bounds.now) c.in-Some.block c.in-Some-2.lookup.level told.0 here told.1 (λ same place.
           elim c.then-lookup-level.branch [
             | then-lookup-level-via-then-lookup-level w ↦ absurd (w.if-lookup-level.true same)

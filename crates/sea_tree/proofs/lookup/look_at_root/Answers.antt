@@ -9,7 +9,7 @@ returns-then-not-is_root-clause-fault g c =
     let here : (g.S.Space.seen c.get.new.self).view c.args.root.0 ≡ Some c.in-Some.block = search rules in
     let told = rw c.in-Some-2.is at c.in_ok-lookup.ensures.some in (
       refl,
-      c.in_ok-block.ensures.noted.here,
+      c.in_ok-block.ensures.known,
       (λ none. cc),
       λ level. IsBroken-other view level c.args.root.0 root_bounds c.in-Some.block c.in-Some-2.lookup.level told.0 here told.1 (λ same place.
           let yes = (c.is_root.ensures c.args.key.now told.0 told.1.node told.2).1 (subst (λ (l : ℕ). IsInPlace l root_bounds told.0) (sym same) place) in

@@ -1,3 +1,4 @@
+use Rattle.sea_base.proofs.Calling.{call_then}
 use Rattle.std.proofs.Common.{[], refl, ◌∙◌, arith}
 use Rattle.std.proofs.lemmas.Result.{err_from_is_err_and}
 use Rattle.sea_base.proofs.Spaces.{only_read-trans, known_later}
@@ -5,13 +6,14 @@ use Rattle.sea_tree.specs.Tree.{root_bounds}
 use Rattle.sea_tree.specs.Place.{meant}
 use Rattle.sea_tree.specs.Lookup.{LooksAtLeaf}
 use Rattle.sea_tree.proofs.WaySteps.{root_fault, comes_first}
-use Rattle.sea_tree.proofs.Lookups.{found_some, looks_further, look_fault, whole_leaf}
+use Rattle.sea_tree.proofs.OnWays.{reads_root, reads_further}
+use Rattle.sea_tree.proofs.Lookups.{found_some, looks_further, looks_on_way, look_fault, whole_leaf}
 use Rattle.sea_tree.proofs.lookup.look_up.Goals as goal
 
 pub returns-in_err-lookup-clause-fault : goal.returns-in_err-lookup-clause-fault
 returns-in_err-lookup-clause-fault g c =
     let p = err_from_is_err_and c.from_residual.result c.from_residual.ensures.1 in
-    rw (p.1, p.2) (root_fault (g.S.Space.seen c.args.space.now) (g.S.Space.seen c.look_at_root.new.space) c.args.root.0 c.args.key.now c.in_err-lookup.ensures.reads (g.met.S.Space.sound c.look_at_root.new.space) (g.S.Space.faults c.args.space.now) (g.S.Space.faults c.look_at_root.new.space) (g.S.Space.tells c.args.space.now) c.in_err-lookup.field-0.0 c.in_err-lookup.ensures.fault)
+    rw (p.1, p.2) (root_fault (g.S.Space.seen c.args.space.now) (g.S.Space.seen c.look_at_root.new.space) c.args.root.0 c.args.key.now c.in_err-lookup.ensures.reads (g.met.S.Space.sound c.look_at_root.new.space) c.in_err-lookup.field-0.0 c.in_err-lookup.ensures.fault)
 
 pub down-init : goal.down-init
 down-init g c =
@@ -28,10 +30,9 @@ down-init g c =
         tells = told.2;
       };
       root = c.in_ok-lookup.ensures.known;
+      within = reads_root c.args.root.0 c.args.key.now (g.S.Space.seen c.args.space.now) seen c.in_ok-lookup.ensures.one;
       reads = c.in_ok-lookup.ensures.reads;
-      later = c.in_ok-lookup.ensures.later;
-      tells = c.in_ok-lookup.ensures.tells;
-      ready = c.in_ok-lookup.ensures.ready;
+      call = c.in_ok-lookup.ensures.call;
     }
 
 pub child_of-bounds-requires : goal.child_of-bounds-requires
@@ -43,7 +44,7 @@ returns-in_err-lookup-2-clause-fault g c =
     let before = c.down.invariant in
     rw (p.1, p.2) (look_fault (g.S.Space.seen c.down.space) (g.S.Space.seen c.look_at.new.space) c.args.root.0 c.args.key.now c.down.upper c.down.lookup c.down-test.true before.down c.child_of-bounds.result.0.0 (meant c.child_of-bounds.result.1)
     c.child_of-bounds.ensures.address c.child_of-bounds.ensures.bounds c.look_at.ensures.reads (g.S.Space.seen c.args.space.now) (only_read-trans before.reads c.look_at.ensures.reads) (g.met.S.Space.sound c.look_at.new.space)
-    (g.S.Space.faults c.args.space.now) (g.S.Space.faults c.down.space) (g.S.Space.faults c.look_at.new.space) (g.S.Space.tells c.args.space.now) (g.S.Space.tells c.down.space) c.in_err-lookup-2.field-0.0 before.later before.tells c.in_err-lookup-2.ensures.fault)
+    c.in_err-lookup-2.field-0.0 c.in_err-lookup-2.ensures.fault)
 
 pub returns-in_err-lookup-2-clause-reads : goal.returns-in_err-lookup-2-clause-reads
 returns-in_err-lookup-2-clause-reads g c = only_read-trans c.down.invariant.reads c.look_at.ensures.reads
@@ -56,10 +57,11 @@ down-preserved-in_ok-lookup-2 g c =
       down = looks_further (g.S.Space.seen c.down.space) (g.S.Space.seen c.look_at.new.space) c.args.root.0 c.args.key.now c.down.upper c.down.lookup c.down-test.true before.down c.child_of-bounds.result.0.0 (meant c.child_of-bounds.result.1)
           c.child_of-bounds.ensures.address c.child_of-bounds.ensures.bounds c.look_at.ensures.reads c.in_ok-lookup-2.lookup told.0 c.in_ok-lookup-2.ensures.level told.1 told.2 c.in_ok-lookup-2.ensures.known;
       root = known_later c.look_at.ensures.reads c.args.root.0 before.root;
+      within = reads_further c.args.root.0 c.args.key.now c.child_of-bounds.result.0.0 (g.S.Space.seen c.args.space.now) (g.S.Space.seen c.down.space) (g.S.Space.seen c.look_at.new.space) before.within c.look_at.ensures.one
+          (looks_on_way (g.S.Space.seen c.down.space) (g.S.Space.seen c.look_at.new.space) c.args.root.0 c.args.key.now c.down.upper c.down.lookup c.down-test.true before.down c.child_of-bounds.result.0.0 (meant c.child_of-bounds.result.1)
+          c.child_of-bounds.ensures.address c.child_of-bounds.ensures.bounds c.look_at.ensures.reads (g.S.Space.seen c.args.space.now) (only_read-trans before.reads c.look_at.ensures.reads) (g.met.S.Space.sound c.look_at.new.space));
       reads = only_read-trans before.reads c.look_at.ensures.reads;
-      later = omega (arith, before.later, c.look_at.ensures.later);
-      tells = c.look_at.ensures.tells ∙ before.tells;
-      ready = c.look_at.ensures.ready;
+      call = call_then g.S.Space g.met.S.Space.frame before.call c.in_ok-lookup-2.ensures.call;
     }
 
 pub down-preserved : goal.down-preserved
@@ -70,10 +72,11 @@ down-preserved g c =
       down = looks_further (g.S.Space.seen c.down.space) (g.S.Space.seen c.look_at.new.space) c.args.root.0 c.args.key.now c.down.upper c.down.lookup c.down-test.true before.down c.child_of-bounds.result.0.0 (meant c.child_of-bounds.result.1)
           c.child_of-bounds.ensures.address c.child_of-bounds.ensures.bounds c.look_at.ensures.reads c.in_ok-lookup-2.lookup told.0 c.in_ok-lookup-2.ensures.level told.1 told.2 c.in_ok-lookup-2.ensures.known;
       root = known_later c.look_at.ensures.reads c.args.root.0 before.root;
+      within = reads_further c.args.root.0 c.args.key.now c.child_of-bounds.result.0.0 (g.S.Space.seen c.args.space.now) (g.S.Space.seen c.down.space) (g.S.Space.seen c.look_at.new.space) before.within c.look_at.ensures.one
+          (looks_on_way (g.S.Space.seen c.down.space) (g.S.Space.seen c.look_at.new.space) c.args.root.0 c.args.key.now c.down.upper c.down.lookup c.down-test.true before.down c.child_of-bounds.result.0.0 (meant c.child_of-bounds.result.1)
+          c.child_of-bounds.ensures.address c.child_of-bounds.ensures.bounds c.look_at.ensures.reads (g.S.Space.seen c.args.space.now) (only_read-trans before.reads c.look_at.ensures.reads) (g.met.S.Space.sound c.look_at.new.space));
       reads = only_read-trans before.reads c.look_at.ensures.reads;
-      later = omega (arith, before.later, c.look_at.ensures.later);
-      tells = c.look_at.ensures.tells ∙ before.tells;
-      ready = c.look_at.ensures.ready;
+      call = call_then g.S.Space g.met.S.Space.frame before.call c.in_ok-lookup-2.ensures.call;
     }
 
 pub returns-clause-whole : goal.returns-clause-whole
@@ -82,3 +85,21 @@ returns-clause-whole g c =
     let seen = g.S.Space.seen c.down.space in
     let at_leaf : LooksAtLeaf seen c.args.root.0 c.args.key.now c.down.lookup = record { upper = c.down.upper; leaf = omega (arith, c.down-test.false); down = end.down } in
     whole_leaf (g.S.Space.seen c.args.space.now) seen c.args.root.0 c.args.key.now c.down.lookup end.reads (g.met.S.Space.sound c.down.space) at_leaf
+
+pub returns-in_err-lookup-clause-within : goal.returns-in_err-lookup-clause-within
+returns-in_err-lookup-clause-within g c = reads_root c.args.root.0 c.args.key.now (g.S.Space.seen c.args.space.now) (g.S.Space.seen c.look_at_root.new.space) c.in_err-lookup.ensures.one
+
+pub returns-in_default-clause-within : goal.returns-in_default-clause-within
+returns-in_default-clause-within g c = reads_root c.args.root.0 c.args.key.now (g.S.Space.seen c.args.space.now) (g.S.Space.seen c.look_at_root.new.space) c.in_ok-lookup.ensures.one
+
+pub returns-in_err-lookup-2-clause-within : goal.returns-in_err-lookup-2-clause-within
+returns-in_err-lookup-2-clause-within g c =
+    let before = c.down.invariant in
+    reads_further c.args.root.0 c.args.key.now c.child_of-bounds.result.0.0 (g.S.Space.seen c.args.space.now) (g.S.Space.seen c.down.space) (g.S.Space.seen c.look_at.new.space) before.within c.look_at.ensures.one
+    (looks_on_way (g.S.Space.seen c.down.space) (g.S.Space.seen c.look_at.new.space) c.args.root.0 c.args.key.now c.down.upper c.down.lookup c.down-test.true before.down c.child_of-bounds.result.0.0 (meant c.child_of-bounds.result.1)
+    c.child_of-bounds.ensures.address c.child_of-bounds.ensures.bounds c.look_at.ensures.reads (g.S.Space.seen c.args.space.now) (only_read-trans before.reads c.look_at.ensures.reads) (g.met.S.Space.sound c.look_at.new.space))
+
+pub returns-in_err-lookup-2-clause-call : goal.returns-in_err-lookup-2-clause-call
+returns-in_err-lookup-2-clause-call g c =
+    let p = err_from_is_err_and c.from_residual-in_err-lookup-2.result c.from_residual-in_err-lookup-2.ensures.1 in
+    rw (p.1, p.2) (call_then g.S.Space g.met.S.Space.frame c.down.invariant.call c.in_err-lookup-2.ensures.call)

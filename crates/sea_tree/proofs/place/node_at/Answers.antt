@@ -9,7 +9,7 @@ pub returns-then-node-level-clause-fault : goal.returns-then-node-level-clause-f
 returns-then-node-level-clause-fault g c =
     let here : (g.S.Space.seen c.get.new.self).view c.args.at.0 ≡ Some c.in-Some.block = search rules in (
       refl,
-      c.in_ok-block.ensures.noted.here,
+      c.in_ok-block.ensures.known,
       IsBroken-other (g.S.Space.seen c.get.new.self).view c.args.level c.args.at.0 (meant c.args.bounds.now) c.in-Some.block c.in-Some-2.node.level c.in-Some-2.node.entries here (search rules) (λ same place.
           elim c.then-node-level.branch [
             | then-node-level-via-then-node-level w ↦ absurd (w.if-node-level.true same)

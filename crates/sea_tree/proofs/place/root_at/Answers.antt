@@ -8,7 +8,7 @@ returns-then-not-admits-clause-fault g c =
     let view = (g.S.Space.seen c.get.new.self).view in
     let here : (g.S.Space.seen c.get.new.self).view c.args.root.0 ≡ Some c.in-Some.block = search rules in (
       refl,
-      c.in_ok-block.ensures.noted.here,
+      c.in_ok-block.ensures.known,
       (λ none. cc),
       λ level. IsBroken-other view level c.args.root.0 root_bounds c.in-Some.block c.in-Some-2.node.level c.in-Some-2.node.entries here (search rules) (λ same place.
           let told = c.admits.ensures.1 (subst (λ (b : Bounds). IsInPlace c.in-Some-2.node.level b c.in-Some-2.node.entries) (sym c.in_ok-root.ensures) (subst (λ (l : ℕ). IsInPlace l root_bounds c.in-Some-2.node.entries) (sym same) place)) in

@@ -1,20 +1,36 @@
-use Rattle.std.proofs.Common.{◌≡◌, ◌<◌, ◌≤◌, ◌++◌, ◌∷◌, [], List, ℕ, Option, length, take, sym, ap, subst, ◌∙◌, arith, length-take}
+use Rattle.sea_base.proofs.Calling.{call_then, call_spent}
+use Rattle.std.proofs.Common.{None, inl, inr, refl, ◌≡◌, ◌<◌, ◌≤◌, ◌++◌, ◌∷◌, [], List, ℕ, Option, length, take, sym, ap, subst, ◌∙◌, arith, length-take}
 use Rattle.std.specs.Option.{option_copied, unwrap_or}
 use Rattle.std.proofs.lemmas.Result.{err_from_is_err_and}
 use Rattle.sea_base.proofs.Spaces.{only_read-trans, agrees_before}
 use Rattle.sea_node.specs.Entries.{Entry}
-use Rattle.sea_tree.specs.Tree.{Bounds}
+use Rattle.std.specs.List.{All}
+use Rattle.std.proofs.lemmas.List.Elements.{All-nil}
+use Rattle.sea_tree.specs.Reads.{ReadsWay}
+use Rattle.sea_tree.specs.Calls.{IsWayFault}
+use Rattle.sea_tree.specs.Tree.{Bounds, IsWithin}
 use Rattle.sea_tree.specs.Way.{IsKnownWay}
 use Rattle.sea_tree.specs.Range.{entries_above, pairs_upto}
-use Rattle.sea_tree.proofs.WaySteps.{range_fault}
+use Rattle.sea_tree.proofs.WaySteps.{empty_way}
+use Rattle.sea_tree.proofs.WholeWays.{whole_first, whole_next, first_breaks, next_breaks, begun_first, begun_next, range_first, range_next, taken_within, within_next}
 use Rattle.sea_tree.proofs.Ranges.{take_all, all_taken, enough_upto, upto_all}
-use Rattle.sea_tree.proofs.Taking.{range_since, first_is, first_taken, next_taken, none_taken, begins_first, begins_next, adds_some, grows, taken_on}
+use Rattle.sea_tree.proofs.Taking.{first_is, first_taken, next_taken, none_taken, begins_first, begins_next, adds_some, grows, taken_on}
 use Rattle.sea_tree.proofs.reading.range.Goals as goal
 
 pub returns-in_err-way-clause-fault : goal.returns-in_err-way-clause-fault
 returns-in_err-way-clause-fault g c =
     let p = err_from_is_err_and c.from_residual-in_err-way.result c.from_residual-in_err-way.ensures.1 in
-    rw (p.1, p.2) (range_fault c.args.root.0 c.unwrap_or-first.result.now (g.S.Space.seen c.args.space.now) (g.S.Space.seen c.way_to.new.space) (g.S.Space.faults c.args.space.now) (g.S.Space.faults c.way_to.new.space) (g.S.Space.tells c.args.space.now) c.in_err-way.field-0.0 c.in_err-way.ensures.fault)
+    let first = first_is c.args.after _ c.unwrap_or-first.result (0 ∷ []) c.unwrap_or-first.ensures (ap (λ (b : Bounds). b.lower) c.in_ok-least.ensures) in
+    rw (p.1, p.2) (first_breaks c.args.root.0 (unwrap_or (option_copied c.args.after) (0 ∷ [])) (g.S.Space.seen c.args.space.now) (g.S.Space.seen c.way_to.new.space) c.in_err-way.field-0.0
+    (subst (λ (key : List ℕ). IsWayFault c.args.root.0 key (g.S.Space.seen c.args.space.now) (g.S.Space.seen c.way_to.new.space) c.in_err-way.field-0.0) first c.in_err-way.ensures.fault))
+
+pub returns-in_default-clause-whole : goal.returns-in_default-clause-whole
+returns-in_default-clause-whole g c = record {
+  upto = None;
+  whole = λ key above within. empty_way (g.S.Space.seen c.args.space.now) (g.S.Space.seen c.way_to.new.space) c.args.root.0 key c.in_ok-way.ensures.reads (g.met.S.Space.sound c.way_to.new.space) c.in_ok-way.ensures.known (rw c.in_default.is at c.in_ok-way.ensures.none);
+  below = λ k d within. tt;
+  ends = inl refl;
+}
 
 pub returns-in_default-clause-pairs : goal.returns-in_default-clause-pairs
 returns-in_default-clause-pairs g c store content meets =
@@ -33,21 +49,42 @@ leaves-init g c =
     record {
       way = (unwrap_or after (0 ∷ []), known);
       begins = begins_first seen c.args.root.0 after way known;
+      whole = whole_first (g.S.Space.seen c.args.space.now) seen c.args.root.0 c.in_ok-way.ensures.reads (g.met.S.Space.sound c.way_to.new.space) (unwrap_or after (0 ∷ [])) way known;
+      begun = begun_first seen c.args.root.0 (unwrap_or after (0 ∷ [])) way known;
+      within = subst (All (λ e. IsWithin e.0 c.in-Some.way.bounds.upper)) (sym found)
+          (taken_within seen c.args.root.0 (unwrap_or after (0 ∷ [])) way c.args.limit after c.new-found.result known (subst (All (λ e. IsWithin e.0 c.in-Some.way.bounds.upper)) (sym c.new-found.ensures) (All-nil (λ (e : Entry). IsWithin e.0 c.in-Some.way.bounds.upper))));
+      range = range_first c.args.root.0 (unwrap_or (option_copied c.args.after) (0 ∷ [])) (g.S.Space.seen c.args.space.now) (g.S.Space.seen c.way_to.new.space)
+          (subst (λ (key : List ℕ). ReadsWay c.args.root.0 key (g.S.Space.seen c.args.space.now) (g.S.Space.seen c.way_to.new.space)) (first_is c.args.after _ c.unwrap_or-first.result (0 ∷ []) c.unwrap_or-first.ensures (ap (λ (b : Bounds). b.lower) c.in_ok-least.ensures)) c.in_ok-way.ensures.within);
       count = omega (arith, ap length found, length-take c.args.limit (c.new-found.result ++ own));
       taken = λ store content agrees holds.
           found ∙ ap (λ (es : List Entry). take c.args.limit (es ++ entries_above (option_copied c.args.after) c.in-Some.way.leaf.entries)) c.new-found.ensures
           ∙ ap (take c.args.limit) (sym (first_taken (g.S.Space.seen c.args.space.now) seen c.args.root.0 c.in_ok-way.ensures.reads (g.met.S.Space.sound c.way_to.new.space) store content agrees holds after way known));
       reads = c.in_ok-way.ensures.reads;
-      later = c.in_ok-way.ensures.later;
-      tells = c.in_ok-way.ensures.tells;
-      ready = c.in_ok-way.ensures.ready;
+      call = c.in_ok-way.ensures.call;
     }
 
 pub returns-in_err-next-clause-fault : goal.returns-in_err-next-clause-fault
 returns-in_err-next-clause-fault g c =
     let before = c.leaves.invariant in
     let p = err_from_is_err_and c.from_residual-in_err-next.result c.from_residual-in_err-next.ensures.1 in
-    rw (p.1, p.2) (range_since (g.S.Space.seen c.args.space.now) (g.S.Space.seen c.leaves.space) (g.S.Space.seen c.way_after.new.space) c.args.root.0 (g.S.Space.faults c.args.space.now) (g.S.Space.faults c.leaves.space) (g.S.Space.faults c.way_after.new.space) (g.S.Space.tells c.args.space.now) (g.S.Space.tells c.leaves.space) c.in_err-next.field-0.0 before.reads before.later before.tells c.in_err-next.ensures.fault)
+    rw (p.1, p.2) (next_breaks c.args.root.0 (unwrap_or (option_copied c.args.after) (0 ∷ [])) (g.S.Space.seen c.args.space.now) (g.S.Space.seen c.leaves.space) (g.S.Space.seen c.way_after.new.space) c.leaves.way.bounds.upper c.in_err-next.field-0.0 before.reads c.way_after.ensures.reads before.whole before.begun c.in_err-next.ensures.fault)
+
+pub returns-in_default-2-clause-whole : goal.returns-in_default-2-clause-whole
+returns-in_default-2-clause-whole g c =
+    let before = c.leaves.invariant in
+    let none = rw c.in_default-2.is at c.in_ok-next.ensures.none in
+    record {
+      upto = c.leaves.way.bounds.upper;
+      whole = λ key above within store at agrees. before.whole key above within store at (agrees_before c.way_after.ensures.reads agrees);
+      below = before.within;
+      ends = inl none;
+    }
+
+pub returns-clause-whole : goal.returns-clause-whole
+returns-clause-whole g c =
+    let before = c.leaves.invariant in
+    let long : length c.leaves.found ≡ c.args.limit = omega (arith, ap length c.items.ensures, c.leaves-test.false, before.count) in
+    record { upto = c.leaves.way.bounds.upper; whole = before.whole; below = before.within; ends = inr long }
 
 pub returns-in_err-next-clause-reads : goal.returns-in_err-next-clause-reads
 returns-in_err-next-clause-reads g c = only_read-trans c.leaves.invariant.reads c.way_after.ensures.reads
@@ -84,15 +121,18 @@ leaves-preserved g c =
     record {
       way = (is.key, is.known);
       begins = begins_next seen c.args.root.0 after c.leaves.way next is before.begins;
+      whole = whole_next (g.S.Space.seen c.args.space.now) seen c.args.root.0 reads (g.met.S.Space.sound c.way_after.new.space) (g.S.Space.seen c.leaves.space) (unwrap_or after (0 ∷ [])) c.leaves.way next c.way_after.ensures.reads before.whole is;
+      begun = begun_next seen c.args.root.0 (unwrap_or after (0 ∷ [])) c.leaves.way next is before.begun;
+      within = subst (All (λ e. IsWithin e.0 c.in-Some-2.next.bounds.upper)) (sym found)
+          (taken_within seen c.args.root.0 is.key next c.args.limit after c.leaves.found is.known (within_next seen c.args.root.0 c.leaves.way next c.leaves.found is before.within));
+      range = range_next c.args.root.0 (unwrap_or (option_copied c.args.after) (0 ∷ [])) (g.S.Space.seen c.args.space.now) (g.S.Space.seen c.leaves.space) (g.S.Space.seen c.way_after.new.space) c.leaves.way.bounds.upper before.reads c.way_after.ensures.reads before.begun before.range c.way_after.ensures.within;
       count = omega (arith, ap length found, length-take c.args.limit (c.leaves.found ++ entries_above (option_copied c.args.after) c.in-Some-2.next.leaf.entries));
       taken = λ store content agrees holds.
           let so_far = before.taken store content (agrees_before c.way_after.ensures.reads agrees) holds in
           let all = all_taken c.args.limit (pairs_upto c.leaves.way.bounds.upper after content) c.leaves.found so_far few in
           found ∙ taken_on c.args.limit c.leaves.found (entries_above after next.leaf.entries) (pairs_upto c.leaves.way.bounds.upper after content) (pairs_upto next.bounds.upper after content) all (next_taken (g.S.Space.seen c.args.space.now) seen c.args.root.0 reads (g.met.S.Space.sound c.way_after.new.space) store content agrees holds after c.leaves.way next is);
       reads = reads;
-      later = omega (arith, before.later, c.way_after.ensures.later);
-      tells = c.way_after.ensures.tells ∙ before.tells;
-      ready = c.way_after.ensures.ready;
+      call = call_then g.S.Space g.met.S.Space.frame before.call c.in_ok-next.ensures.call;
     }
 
 pub leaves-smaller : goal.leaves-smaller
@@ -108,3 +148,25 @@ returns-clause-pairs g c store content meets =
     let after = option_copied c.args.after in
     let long : c.args.limit ≤ length c.leaves.found = omega (arith, ap length c.items.ensures, c.leaves-test.false) in
     enough_upto c.args.limit c.leaves.way.bounds.upper after content c.leaves.found (c.leaves.invariant.taken store content meets.agrees meets.content) long
+
+pub returns-in_default-clause-within : goal.returns-in_default-clause-within
+returns-in_default-clause-within g c = range_first c.args.root.0 (unwrap_or (option_copied c.args.after) (0 ∷ [])) (g.S.Space.seen c.args.space.now) (g.S.Space.seen c.way_to.new.space)
+    (subst (λ (key : List ℕ). ReadsWay c.args.root.0 key (g.S.Space.seen c.args.space.now) (g.S.Space.seen c.way_to.new.space)) (first_is c.args.after _ c.unwrap_or-first.result (0 ∷ []) c.unwrap_or-first.ensures (ap (λ (b : Bounds). b.lower) c.in_ok-least.ensures)) c.in_ok-way.ensures.within)
+
+pub returns-in_default-2-clause-within : goal.returns-in_default-2-clause-within
+returns-in_default-2-clause-within g c =
+    let before = c.leaves.invariant in
+    range_next c.args.root.0 (unwrap_or (option_copied c.args.after) (0 ∷ [])) (g.S.Space.seen c.args.space.now) (g.S.Space.seen c.leaves.space) (g.S.Space.seen c.way_after.new.space) c.leaves.way.bounds.upper before.reads c.way_after.ensures.reads before.begun before.range c.way_after.ensures.within
+
+pub returns-in_err-next-clause-call : goal.returns-in_err-next-clause-call
+returns-in_err-next-clause-call g c =
+    let p = err_from_is_err_and c.from_residual-in_err-next.result c.from_residual-in_err-next.ensures.1 in
+    rw (p.1, p.2) (call_then g.S.Space g.met.S.Space.frame c.leaves.invariant.call c.in_err-next.ensures.call)
+
+pub returns-in_default-2-clause-call : goal.returns-in_default-2-clause-call
+returns-in_default-2-clause-call g c = call_then g.S.Space g.met.S.Space.frame c.leaves.invariant.call c.in_ok-next.ensures.call
+
+pub returns-in_err-take_above-2-clause-call : goal.returns-in_err-take_above-2-clause-call
+returns-in_err-take_above-2-clause-call g c =
+    let p = err_from_is_err_and c.from_residual-in_err-take_above-2.result c.from_residual-in_err-take_above-2.ensures.1 in
+    rw (p.1, p.2) (call_spent g.S.Space (call_then g.S.Space g.met.S.Space.frame c.leaves.invariant.call c.in_ok-next.ensures.call))

@@ -7,6 +7,8 @@ use Rattle.sea_tree.specs.Plan.{changes_of}
 use Rattle.sea_tree.specs.Mending.{after_edit, IsNearPlace}
 use Rattle.sea_tree.specs.Settled.{AreNeighbours}
 use Rattle.sea_tree.proofs.MendNear.{IsNode-filled}
+use Rattle.sea_tree.proofs.Performing.{unspliced}
+use Rattle.sea_tree.proofs.Nears.{unread_child, unread_here}
 use Rattle.sea_tree.proofs.Settles.{some_near, joins, cuts}
 use Rattle.sea_tree.proofs.settling.settle.Goals as goal
 
@@ -61,11 +63,14 @@ returns-then-bytes-clause-settled g c =
     let new = g.S.Space.seen c.of.new.space in
     let held = c.in_ok-pair.pair in
     let left = c.in_ok-even_out.field-0 in
-    let before : List Change = changes_of c.args.plan.now in
-    let after : List Change = changes_of c.even_out.new.plan in
+    let before : List Change = changes_of c.args.plan.now.writes in
+    let after : List Change = changes_of c.even_out.new.writes in
     let same : c.in_ok-applied.field-0 ≡ es = c.in_ok-applied.ensures ∙ ap (after_edit c.args.edit) c.items.ensures in
     let are : AreNeighbours level at es parent old new held = subst (λ (fs : List Entry). AreNeighbours level at fs parent old new held) same c.in_ok-pair.ensures.held in
     elim c.in_ok-even_out.ensures.evened [
-      | inl joined ↦ (let planned = joins level at es parent old new held before after left are joined c.of.ensures.reads.next in (planned.0, planned.1, inr (inr (inl planned.2))))
-      | inr cut ↦ (let planned = cuts level at es parent old new held before after left are cut c.of.ensures.reads.next in (planned.0, planned.1, inr (inr (inr planned.2))))
+      | inl joined ↦ (let planned = joins level at es parent old new held before after left are joined c.of.ensures.reads.next in (planned.0, unspliced c.args.plan.now.splice after before planned.0 c.requires.first planned.1, inr (inr (inl planned.2))))
+      | inr cut ↦ (let planned = cuts level at es parent old new held before after left are cut c.of.ensures.reads.next in (planned.0, unspliced c.args.plan.now.splice after before planned.0 c.requires.first planned.1, inr (inr (inr planned.2))))
     ]
+
+pub returns-clause-within : goal.returns-clause-within
+returns-clause-within g c = unread_child c.args.parent.now.node.entries (g.S.Space.seen c.args.space.now) (g.S.Space.seen c.args.space.now) (unread_here (g.S.Space.seen c.args.space.now))

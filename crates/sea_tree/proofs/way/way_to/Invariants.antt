@@ -1,6 +1,8 @@
-use Rattle.std.proofs.Common.{◌≡◌, ◌≤◌, IsTrue}
+use Rattle.sea_base.specs.Ghosts.{IsCall}
+use Rattle.std.proofs.Common.{None, ◌≡◌, ◌≤◌, IsTrue}
 use Rattle.sea_base.specs.Space.{IsKnown, OnlyRead}
 use Rattle.sea_tree.specs.Place.{meant}
+use Rattle.sea_tree.specs.Reads.{ReadsWay}
 use Rattle.sea_tree.specs.Way.{ComesDown}
 use Rattle.sea_tree.proofs.way.way_to.Given as goal
 
@@ -8,10 +10,9 @@ abbrev pub invariant-down : goal.invariant-down
 invariant-down g l = record {
   down : ComesDown (g.S.Space.seen l.space) l.fn.root.0 l.key l.steps.items l.node.level l.at.0 (meant l.bounds) l.node.entries;
   root : IsKnown (g.S.Space.seen l.space) l.fn.root.0;
+  within : ReadsWay l.fn.root.0 l.fn.key (g.S.Space.seen l.fn.space) (g.S.Space.seen l.space);
   reads : OnlyRead (g.S.Space.seen l.fn.space) (g.S.Space.seen l.space);
-  later : g.S.Space.faults l.fn.space ≤ g.S.Space.faults l.space;
-  tells : g.S.Space.tells l.space ≡ g.S.Space.tells l.fn.space;
-  ready : IsTrue (g.S.Space.ready l.space);
+  call : IsCall g.S.Space l.fn.space l.space None;
 }
 
 abbrev pub decreases-down : goal.decreases-down

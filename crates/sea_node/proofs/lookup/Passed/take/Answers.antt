@@ -1,37 +1,54 @@
-use Rattle.std.proofs.Common.{rules, ◌≡◌, ℕ, List, [], ◌∷◌, ◌++◌, Some, refl, sym, ap, subst, ◌∙◌}
-use Rattle.std.specs.Option.{unwrap_or}
-use Rattle.sea_node.specs.Lookup.{EndsAt, Finds}
-use Rattle.sea_node.proofs.Lookups.{first_more, finds_still, finds_found, finds_next, none_met, not_above, is_above}
+use Rattle.std.proofs.Common.{[], ◌∷◌, ◌++◌, Some, refl, sym, ap, subst, ◌∙◌}
+use Rattle.std.proofs.lemmas.Bool.{false≢true}
+use Rattle.sea_node.specs.Reading.{entry_in}
+use Rattle.sea_node.specs.Lookup.{Finds, keyed, entered}
+use Rattle.sea_node.proofs.Keys.{IsNotAbove-not_below}
+use Rattle.sea_node.proofs.Lookups.{first_or, some_keyed, none_keyed, spans_more, ends_more, finds_still, finds_found, finds_next}
 use Rattle.sea_node.proofs.lookup.Passed.take.Goals as goal
 
-pub returns-then-is_some : goal.returns-then-is_some
-returns-then-is_some c = λ es rising passes.
-    let e = c.args.entry in
-    let first : c.in_ok-copy.field-0 ≡ unwrap_or c.args.self.now.first e.0 = search rules in
+pub returns-then-is_some-clause-takes : goal.returns-then-is_some-clause-takes
+returns-then-is_some-clause-takes c = λ es rising passes.
+    let bytes = c.args.bytes.now in
+    let self = c.args.self.now in
+    let e = entry_in bytes c.args.entry in
     record {
-      first_is = ap Some first ∙ first_more es e c.args.self.now.first passes.first_is;
-      last_is = subst (λ (k : List ℕ). EndsAt (es ++ e ∷ []) (Some k)) (sym c.in_ok-copy-2.ensures) (es, e.1, refl);
-      finds = finds_still c.args.key.now es e c.args.self.now.found c.args.self.now.next (sym c.is_some.ensures ∙ c.if-is_some.true) rising passes.finds;
+      end_is = ends_more bytes es e self.end c.args.entry.end c.requires.block c.requires.spans.within passes.end_is c.requires.entry.1;
+      first_is = ap (keyed bytes) c.or-self.ensures ∙ first_or bytes es self.first c.args.entry passes.first_is;
+      last_is = (es, e.1, refl);
+      finds = finds_still c.args.key.now es e (entered bytes self.found) (keyed bytes self.next) (some_keyed bytes self.next ∙ sym c.is_some.ensures ∙ c.if-is_some.true) rising passes.finds;
     }
 
-pub returns-then-le : goal.returns-then-le
-returns-then-le c = λ es rising passes.
-    let e = c.args.entry in
-    let first : c.in_ok-copy.field-0 ≡ unwrap_or c.args.self.now.first e.0 = search rules in
-    let none = none_met c.args.self.now.next (sym c.is_some.ensures ∙ c.if-is_some.false) in
+pub returns-then-comes_before-clause-takes : goal.returns-then-comes_before-clause-takes
+returns-then-comes_before-clause-takes c = λ es rising passes.
+    let bytes = c.args.bytes.now in
+    let self = c.args.self.now in
+    let e = entry_in bytes c.args.entry in
+    let none = none_keyed bytes self.next (sym c.is_some.ensures ∙ c.if-is_some.false) in
     record {
-      first_is = ap Some first ∙ first_more es e c.args.self.now.first passes.first_is;
-      last_is = subst (λ (k : List ℕ). EndsAt (es ++ e ∷ []) (Some k)) (sym c.in_ok-copy-2.ensures) (es, e.1, refl);
-      finds = subst (Finds c.args.key.now (es ++ e ∷ []) (Some e)) (sym none) (finds_found c.args.key.now es e (not_above e.0 c.args.key.now (sym c.le.ensures ∙ c.if-le.true)));
+      end_is = ends_more bytes es e self.end c.args.entry.end c.requires.block c.requires.spans.within passes.end_is c.requires.entry.1;
+      first_is = ap (keyed bytes) c.or-self.ensures ∙ first_or bytes es self.first c.args.entry passes.first_is;
+      last_is = (es, e.1, refl);
+      finds = finds_next c.args.key.now es e (entered bytes self.found) (subst (Finds c.args.key.now es (entered bytes self.found)) none passes.finds) (c.if-comes_before.ensures.0 refl);
     }
 
-pub returns-else-le : goal.returns-else-le
-returns-else-le c = λ es rising passes.
-    let e = c.args.entry in
-    let first : c.in_ok-copy.field-0 ≡ unwrap_or c.args.self.now.first e.0 = search rules in
-    let none = none_met c.args.self.now.next (sym c.is_some.ensures ∙ c.if-is_some.false) in
+pub returns-else-comes_before-clause-takes : goal.returns-else-comes_before-clause-takes
+returns-else-comes_before-clause-takes c = λ es rising passes.
+    let bytes = c.args.bytes.now in
+    let self = c.args.self.now in
+    let e = entry_in bytes c.args.entry in
+    let none = none_keyed bytes self.next (sym c.is_some.ensures ∙ c.if-is_some.false) in
     record {
-      first_is = ap Some first ∙ first_more es e c.args.self.now.first passes.first_is;
-      last_is = subst (λ (k : List ℕ). EndsAt (es ++ e ∷ []) (Some k)) (sym c.in_ok-copy-2.ensures) (es, e.1, refl);
-      finds = finds_next c.args.key.now es e c.args.self.now.found (subst (Finds c.args.key.now es c.args.self.now.found) none passes.finds) (is_above e.0 c.args.key.now (sym c.le.ensures ∙ c.if-le.false));
+      end_is = ends_more bytes es e self.end c.args.entry.end c.requires.block c.requires.spans.within passes.end_is c.requires.entry.1;
+      first_is = ap (keyed bytes) c.or-self.ensures ∙ first_or bytes es self.first c.args.entry passes.first_is;
+      last_is = (es, e.1, refl);
+      finds = subst (Finds c.args.key.now (es ++ e ∷ []) (Some e)) (sym none) (finds_found c.args.key.now es e (IsNotAbove-not_below e.0 c.args.key.now (λ below. false≢true (c.if-comes_before.ensures.1 below))));
     }
+
+pub returns-then-is_some-clause-spans : goal.returns-then-is_some-clause-spans
+returns-then-is_some-clause-spans c = rw c.or-self.ensures (spans_more c.args.bytes.now c.args.self.now c.args.entry c.args.self.now.found c.args.self.now.next c.requires.block c.requires.spans c.requires.entry c.requires.spans.found_is c.requires.spans.next_is)
+
+pub returns-then-comes_before-clause-spans : goal.returns-then-comes_before-clause-spans
+returns-then-comes_before-clause-spans c = rw c.or-self.ensures (spans_more c.args.bytes.now c.args.self.now c.args.entry c.args.self.now.found (Some c.args.entry) c.requires.block c.requires.spans c.requires.entry c.requires.spans.found_is c.requires.entry.0)
+
+pub returns-else-comes_before-clause-spans : goal.returns-else-comes_before-clause-spans
+returns-else-comes_before-clause-spans c = rw c.or-self.ensures (spans_more c.args.bytes.now c.args.self.now c.args.entry (Some c.args.entry) c.args.self.now.next c.requires.block c.requires.spans c.requires.entry c.requires.entry.0 c.requires.spans.next_is)
