@@ -4,7 +4,7 @@ use Rattle.sea_device.specs.Device.{IsImage, overwritten}
 use Rattle.sea_device.specs.Moments.{Change, Wrote, Synced, stable_after, MayLeaveAfter, IsUnsyncedAfter, bytes_at, stable_at, MayLeaveAt, IsUnsyncedAt}
 use Rattle.sea_device.specs.Images.{AreBytes, IsSafe, leaves_image}
 use Rattle.sea_device.specs.Laws.{first_image, all_safe}
-use Rattle.sea_device.specs.declared.record.Record.{Record}
+use Rattle.sea_device.specs.declared.call_log.CallLog.{CallLog}
 use Rattle.sea_device.specs.Past.{changes_of, stable_of, MayLeaveOf, IsUnsyncedOf}
 use Rattle.sea_device.proofs.Grows.{Torn-same}
 use Rattle.sea_device.proofs.Torn.{torn_inside, torn_both}
@@ -48,12 +48,12 @@ leaves_laid blocks start history first safe (suc k) block bytes size fits writte
     (unsynced_within (4096 * blocks) history safe (suc k) block written) (leaves_image blocks start history first safe k)
     (λ past d before. leaves_laid blocks start history first safe k block bytes size fits past d before) written left
 
--- the same of a record
-pub stable_left : (blocks : ℕ) (r : Record) → length r.start.items ≡ 4096 * blocks → (k : ℕ) → MayLeaveOf r k (stable_of r k)
+-- the same of a log
+pub stable_left : (blocks : ℕ) (r : CallLog) → length r.start.items ≡ 4096 * blocks → (k : ℕ) → MayLeaveOf r k (stable_of r k)
 stable_left blocks r size = leaves_stable blocks r.start.items (changes_of r) (first_image blocks r size) (all_safe blocks r size)
 
-pub block_within : (blocks : ℕ) (r : Record) → length r.start.items ≡ 4096 * blocks → (k block : ℕ) → IsUnsyncedOf r k block → 4096 * block + 4096 ≤ 4096 * blocks
+pub block_within : (blocks : ℕ) (r : CallLog) → length r.start.items ≡ 4096 * blocks → (k block : ℕ) → IsUnsyncedOf r k block → 4096 * block + 4096 ≤ 4096 * blocks
 block_within blocks r size = unsynced_within (4096 * blocks) (changes_of r) (all_safe blocks r size)
 
-pub laid_left : (blocks : ℕ) (r : Record) → length r.start.items ≡ 4096 * blocks → (k block : ℕ) (bytes : List ℕ) → length bytes ≡ 4096 → AreBytes bytes → IsUnsyncedOf r k block → (c : List ℕ) → MayLeaveOf r k c → MayLeaveOf r k (overwritten (4096 * block) bytes c)
+pub laid_left : (blocks : ℕ) (r : CallLog) → length r.start.items ≡ 4096 * blocks → (k block : ℕ) (bytes : List ℕ) → length bytes ≡ 4096 → AreBytes bytes → IsUnsyncedOf r k block → (c : List ℕ) → MayLeaveOf r k c → MayLeaveOf r k (overwritten (4096 * block) bytes c)
 laid_left blocks r size = leaves_laid blocks r.start.items (changes_of r) (first_image blocks r size) (all_safe blocks r size)

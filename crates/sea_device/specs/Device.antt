@@ -42,7 +42,8 @@ abbrev pub Reaches : (List ℕ → List ℕ → Type 0) → (List ℕ → Type 0
 Reaches step old new = (c d : List ℕ) → old d → step d c → new c
 
 -- Time goes on: a crash since t may have left what it might have left before, or what it may leave now.
-pub record Elapses (before now : ℕ) (past since : ℕ → List ℕ → Type 0) (may_leave : List ℕ → Type 0) : Type 0 where
+pub record Elapses (before now : ℕ) (past since : ℕ → List ℕ → Type 0)
+    (may_leave : List ℕ → Type 0) : Type 0 where
   pub later : before ≤ now
   pub nothing_else : (t : ℕ) (c : List ℕ) → t ≤ before → since t c → past t c ⊎ may_leave c
   pub keeps : (t : ℕ) (c : List ℕ) → t ≤ before → past t c → since t c
@@ -51,11 +52,3 @@ pub record Elapses (before now : ℕ) (past since : ℕ → List ℕ → Type 0)
 pub record HasCause {T E : Type 0} (before now : ℕ) (result : Result T E) : Type 0 where
   pub later : before ≤ now
   pub failed : OnErr result (FaultsRose before now)
-
--- What reads leave of a device: all but its count of faults.
-pub record OnlyRead {D : Type 0} (blocks : D → ℕ) (bytes : D → Option (List ℕ)) (tells : D → Bool) (leaves : D → List ℕ → Type 0) (moment : D → ℕ) (since : D → ℕ → List ℕ → Type 0) (old new : D) : Type 0 where
-  pub size : blocks new ≡ blocks old
-  pub contents : bytes new ≡ bytes old
-  pub told : tells new ≡ tells old
-  pub images : IsSame (leaves old) (leaves new)
-  pub time : Elapses (moment old) (moment new) (since old) (since new) (leaves new)

@@ -1,9 +1,10 @@
+pub mod Calls
 pub mod Device
 pub mod Images
 pub mod Laws
 pub mod Memory
 pub mod Moments
 pub mod Past
-pub mod Record
+pub mod CallLog
 pub mod Steady
 pub mod Stream

@@ -4,7 +4,7 @@ use Rattle.std.specs.List.{fold}
 use Rattle.sea_base.specs.declared.place.Paddr.{Paddr}
 use Rattle.sea_device.specs.declared.memory.Fails.{Fails}
 use Rattle.sea_device.specs.declared.memory.MemDevice.{MemDevice}
-use Rattle.sea_device.specs.declared.record.Room.{Room}
+use Rattle.sea_device.specs.declared.call_log.Room.{Room}
 use Rattle.sea_device.specs.Device.{overwritten}
 use Rattle.sea_base.specs.Failures.{IsFresh}
 use Rattle.sea_device.specs.Past.{IsNew, MayLeaveNow}
@@ -14,7 +14,8 @@ abbrev pub no_fails : Fails
 no_fails = record { reads = []; writes = []; syncs = [] }
 
 -- Nothing was done to it yet: a crash leaves these bytes, which it holds.
-pub record IsMade (blocks : ℕ) (bytes : List ℕ) (room : Room) (fails : Fails) (d : MemDevice) : Type 0 where
+pub record IsMade (blocks : ℕ) (bytes : List ℕ) (room : Room) (fails : Fails)
+    (d : MemDevice) : Type 0 where
   pub size : d.blocks ≡ blocks
   pub holds : d.bytes.items ≡ bytes
   pub past : IsNew bytes room d.past

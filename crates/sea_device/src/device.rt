@@ -50,7 +50,8 @@ pub trait Device {
         ensures contents { contents self.new ≡ contents self.old }
         ensures told { tells_images self.new ≡ tells_images self.old }
         ensures images { IsSame (may_leave self.old) (may_leave self.new) }
-        ensures time { Elapses (clock self.old) (clock self.new) (left_since self.old) (left_since self.new) (may_leave self.new) }
+        ensures time { Elapses (clock self.old) (clock self.new) (left_since self.old)
+            (left_since self.new) (may_leave self.new) }
         ensures faults { CountsFault (faults self.old) (faults self.new) result }
         ensures cause { HasCause (faults self.old) (faults self.new) result };
 
@@ -59,45 +60,57 @@ pub trait Device {
     fn write(&mut self, at: Paddr, bytes: &[u8]) -> Result<(), Failed>
         requires whole { IsWholeBlocks (length bytes.now) }
         requires within { 4096 * at.0 + length bytes.now ≤ 4096 * size self.old }
-        ensures written { OnOk result (contents self.new ≡ option_map (overwritten (4096 * at.0) bytes.now) (contents self.old)) }
-        ensures within { ChangesWithin (4096 * at.0) (length bytes.now) (contents self.old) (contents self.new) }
+        ensures written { OnOk result (contents self.new
+            ≡ option_map (overwritten (4096 * at.0) bytes.now) (contents self.old)) }
+        ensures within { ChangesWithin (4096 * at.0) (length bytes.now) (contents self.old)
+            (contents self.new) }
         ensures size { size self.new ≡ size self.old }
         ensures told { tells_images self.new ≡ tells_images self.old }
 
         // What a crash may leave is what it might have left before, with any bytes in the range.
-        ensures images { Follows (Torn (4096 * at.0) (length bytes.now)) (may_leave self.old) (may_leave self.new) }
-        ensures torn { OnOk result (Reaches (Torn (4096 * at.0) (length bytes.now)) (may_leave self.old) (may_leave self.new)) }
+        ensures images { Follows (Torn (4096 * at.0) (length bytes.now)) (may_leave self.old)
+            (may_leave self.new) }
+        ensures torn { OnOk result (Reaches (Torn (4096 * at.0) (length bytes.now))
+            (may_leave self.old) (may_leave self.new)) }
         ensures unwritten { (c : List ℕ) → may_leave self.old c → may_leave self.new c }
 
-        ensures time { Elapses (clock self.old) (clock self.new) (left_since self.old) (left_since self.new) (may_leave self.new) }
+        ensures time { Elapses (clock self.old) (clock self.new) (left_since self.old)
+            (left_since self.new) (may_leave self.new) }
         ensures faults { CountsFault (faults self.old) (faults self.new) result }
         ensures cause { HasCause (faults self.old) (faults self.new) result };
 
     /// Makes the bytes now stable: a crash leaves them and nothing else. After a failed sync nothing
     /// more is stable than before.
     fn sync(&mut self) -> Result<(), Failed>
-        ensures stable { OnOk result ((c : List ℕ) → may_leave self.new c → IfSome (contents self.new) (λ b. c ≡ b)) }
+        ensures stable { OnOk result ((c : List ℕ) → may_leave self.new c
+            → IfSome (contents self.new) (λ b. c ≡ b)) }
         ensures size { size self.new ≡ size self.old }
         ensures contents { contents self.new ≡ contents self.old }
         ensures told { tells_images self.new ≡ tells_images self.old }
         ensures images { (c : List ℕ) → may_leave self.new c → may_leave self.old c }
         ensures unstable { OnErr result (IsSame (may_leave self.old) (may_leave self.new)) }
-        ensures time { Elapses (clock self.old) (clock self.new) (left_since self.old) (left_since self.new) (may_leave self.new) }
+        ensures time { Elapses (clock self.old) (clock self.new) (left_since self.old)
+            (left_since self.new) (may_leave self.new) }
         ensures faults { CountsFault (faults self.old) (faults self.new) result }
         ensures cause { HasCause (faults self.old) (faults self.new) result };
 
     /// The bytes now are those of all blocks.
-    ghost whole: { (device : Self) (b : List ℕ) → contents device ≡ Some b → IsImage (size device) b };
+    ghost whole: { (device : Self) (b : List ℕ) → contents device ≡ Some b
+        → IsImage (size device) b };
 
     /// What a crash leaves has as many bytes.
-    ghost images_whole: { (device : Self) (c : List ℕ) → may_leave device c → IsImage (size device) c };
+    ghost images_whole: { (device : Self) (c : List ℕ) → may_leave device c
+        → IsImage (size device) c };
 
     /// The bytes now are among what a crash may leave.
-    ghost now_among: { (device : Self) (b : List ℕ) → IsTrue (tells_images device) → contents device ≡ Some b → may_leave device b };
+    ghost now_among: { (device : Self) (b : List ℕ) → IsTrue (tells_images device)
+        → contents device ≡ Some b → may_leave device b };
 
     /// This moment is one of those since an earlier one.
-    ghost counts_now: { (device : Self) (t : ℕ) (c : List ℕ) → t ≤ clock device → may_leave device c → left_since device t c };
+    ghost counts_now: { (device : Self) (t : ℕ) (c : List ℕ) → t ≤ clock device
+        → may_leave device c → left_since device t c };
 
     /// Since this moment there is no other.
-    ghost only_now: { (device : Self) (c : List ℕ) → left_since device (clock device) c → may_leave device c };
+    ghost only_now: { (device : Self) (c : List ℕ) → left_since device (clock device) c
+        → may_leave device c };
 }

@@ -3,11 +3,11 @@
 #![tactic(auto)]
 
 mod append;
+mod call_log;
 mod device;
 mod failures;
 mod memory;
 mod overwrite;
-mod record;
 mod sink;
 mod sources;
 mod steady;

@@ -7,9 +7,9 @@ ghost use Rattle.sea_device.specs.Laws.{whole_law, left_image, now_law, counts_l
 ghost use Rattle.sea_device.specs.Moments.{Wrote, Synced};
 ghost use Rattle.sea_device.specs.Past.{now_of, bytes_of, stable_of, MayLeaveOf, MayLeaveNow, LeftSinceOf, IsUnsyncedOf, TakesSync, TakesWrite, IsNew, GoesOn};
 
+use crate::call_log::{CallLog, Room};
 use crate::failures::fault;
 use crate::overwrite::overwrite;
-use crate::record::{Record, Room};
 use crate::{Device, Failed};
 use sea_base::{BLOCK_BYTES, Block, Failures, NoMemory, Nths, Paddr, Sequence};
 use std::alloc::Global;
@@ -30,7 +30,7 @@ pub type Chosen = Sequence<(Paddr, Block)>;
 pub struct MemDevice {
     blocks: u32,
     bytes: Vec<u8>,
-    past: Record,
+    past: CallLog,
     reads: Failures,
     writes: Failures,
     syncs: Failures,
@@ -58,7 +58,7 @@ impl Fails {
 impl MemDevice {
     ghost use Rattle.sea_device.specs.Memory.{no_fails, IsMade, laid};
 
-    /// A device of zeros. It takes its whole memory here: its blocks, and a record of so many writes
+    /// A device of zeros. It takes its whole memory here: its blocks, and a log of so many writes
     /// and syncs, with so many written bytes.
     pub fn new(
         alloc: Global,
@@ -67,7 +67,8 @@ impl MemDevice {
         bytes: u64,
         fails: Fails,
     ) -> Result<MemDevice, NoMemory>
-        ensures { IfOk result (IsMade blocks (replicate (4096 * blocks) 0) (record { calls = calls; bytes = bytes }) fails) }
+        ensures { IfOk result (IsMade blocks (replicate (4096 * blocks) 0)
+            (record { calls = calls; bytes = bytes }) fails) }
     {
         let zeros = vec![in alloc; 0; BLOCK_BYTES * blocks as usize]?;
         MemDevice::holding(alloc, blocks, zeros, Room { calls, bytes }, fails)
@@ -84,7 +85,7 @@ impl MemDevice {
         requires { length bytes.items ≡ 4096 * blocks }
         ensures { IfOk result (IsMade blocks bytes.items room fails) }
     {
-        let past = Record::new(alloc, bytes.to_vec(alloc)?, room)?;
+        let past = CallLog::new(alloc, bytes.to_vec(alloc)?, room)?;
         let Fails {
             reads,
             writes,
@@ -101,7 +102,7 @@ impl MemDevice {
         })
     }
 
-    /// Makes the bytes now the one image that a crash may leave, and begins a new record, with its
+    /// Makes the bytes now the one image that a crash may leave, and begins a new log, with its
     /// counts at 0.
     pub fn refit(
         mut self,
@@ -109,7 +110,8 @@ impl MemDevice {
         bytes: u64,
         fails: Fails,
     ) -> Result<MemDevice, (MemDevice, NoMemory)>
-        ensures ok { IfOk result (IsMade self.blocks self.bytes.items (record { calls = calls; bytes = bytes }) fails) }
+        ensures ok { IfOk result (IsMade self.blocks self.bytes.items
+            (record { calls = calls; bytes = bytes }) fails) }
         ensures err { IfErr result (λ e. e.0 ≡ self) }
     {
         match self.settled(Room { calls, bytes }) {
@@ -130,12 +132,12 @@ impl MemDevice {
         }
     }
 
-    /// A record that begins with the bytes now.
-    fn settled(&self, room: Room) -> Result<Record, NoMemory>
+    /// A log that begins with the bytes now.
+    fn settled(&self, room: Room) -> Result<CallLog, NoMemory>
         ensures { IfOk result (IsNew self.now.bytes.items room) }
     {
         let alloc = *self.bytes.allocator();
-        Record::new(alloc, self.bytes.to_vec(alloc)?, room)
+        CallLog::new(alloc, self.bytes.to_vec(alloc)?, room)
     }
 
     /// A fresh device with the image of a crash at a moment: what was stable then, with the chosen
@@ -143,8 +145,10 @@ impl MemDevice {
     pub fn crash(&self, moment: u64, chosen: &Chosen) -> Result<MemDevice, NoMemory>
         requires moment { moment ≤ now_of self.now.past }
         requires unsynced { All (λ x. IsUnsyncedOf self.now.past moment x.0.0) chosen.now }
-        ensures made { IfOk result (IsMade self.now.blocks (laid chosen.now (stable_of self.now.past moment)) self.now.past.room no_fails) }
-        ensures allowed { IfOk result (λ made. (t : ℕ) → t ≤ moment → LeftSinceOf self.now.past t made.bytes.items) }
+        ensures made { IfOk result (IsMade self.now.blocks
+            (laid chosen.now (stable_of self.now.past moment)) self.now.past.room no_fails) }
+        ensures allowed { IfOk result (λ made. (t : ℕ) → t ≤ moment
+            → LeftSinceOf self.now.past t made.bytes.items) }
     {
         let alloc = *self.bytes.allocator();
         let mut bytes = self.past.stable(moment as usize)?;
@@ -234,9 +238,13 @@ impl Device for MemDevice {
         requires whole { IsWholeBlocks (length into.old) }
         requires within { 4096 * at.0 + length into.old ≤ 4096 * self.old.blocks }
         ensures exact { IsErr result ↔ IsDue self.old.reads }
-        ensures bytes { OnOk result (into.new ≡ slice_range self.old.bytes.items (4096 * at.0) (4096 * at.0 + length into.old)) }
+        ensures bytes { OnOk result (into.new
+            ≡ slice_range self.old.bytes.items (4096 * at.0) (4096 * at.0 + length into.old)) }
         ensures failed { OnErr result (into.new ≡ into.old) }
-        ensures device { self.new ≡ record self.old { reads = counted self.old.reads; faults = self.new.faults } }
+        ensures device { self.new ≡ record self.old {
+          reads = counted self.old.reads;
+          faults = self.new.faults;
+        } }
         ensures faults { CountsFault self.old.faults self.new.faults result }
         ensures cause { HasCause self.old.faults self.new.faults result }
     {
@@ -248,22 +256,33 @@ impl Device for MemDevice {
         Ok(())
     }
 
-    /// Fails exactly where it is listed or the record has no room for it.
+    /// Fails exactly where it is listed or the log has no room for it.
     fn write(&mut self, at: Paddr, bytes: &[u8]) -> Result<(), Failed>
         requires whole { IsWholeBlocks (length bytes.now) }
         requires within { 4096 * at.0 + length bytes.now ≤ 4096 * self.old.blocks }
-        ensures exact { IsErr result ↔ (IsDue self.old.writes ⊎ ¬ TakesWrite self.old.past (length bytes.now)) }
-        ensures written { OnOk result (self.new.bytes.items ≡ overwritten (4096 * at.0) bytes.now self.old.bytes.items) }
-        ensures recorded { OnOk result (GoesOn self.old.past self.new.past (Wrote (4096 * at.0) bytes.now)) }
-        ensures used { OnOk result (length self.new.past.written.items ≡ length self.old.past.written.items + length bytes.now) }
-        ensures failed { OnErr result ((self.new.bytes ≡ self.old.bytes) × (self.new.past ≡ self.old.past)) }
+        ensures exact { IsErr result ↔ (IsDue self.old.writes
+            ⊎ ¬ TakesWrite self.old.past (length bytes.now)) }
+        ensures written { OnOk result (self.new.bytes.items
+            ≡ overwritten (4096 * at.0) bytes.now self.old.bytes.items) }
+        ensures logged { OnOk result (GoesOn self.old.past self.new.past
+            (Wrote (4096 * at.0) bytes.now)) }
+        ensures used { OnOk result (length self.new.past.written.items
+            ≡ length self.old.past.written.items + length bytes.now) }
+        ensures failed { OnErr result ((self.new.bytes ≡ self.old.bytes)
+            × (self.new.past ≡ self.old.past)) }
         ensures counted { self.new.writes ≡ counted self.old.writes }
-        ensures same { (self.new.blocks ≡ self.old.blocks) × (self.new.reads ≡ self.old.reads) × (self.new.syncs ≡ self.old.syncs) }
-        ensures within { Torn (4096 * at.0) (length bytes.now) self.old.bytes.items self.new.bytes.items }
-        ensures images { Follows (Torn (4096 * at.0) (length bytes.now)) (MayLeaveNow self.old.past) (MayLeaveNow self.new.past) }
-        ensures torn { OnOk result (Reaches (Torn (4096 * at.0) (length bytes.now)) (MayLeaveNow self.old.past) (MayLeaveNow self.new.past)) }
-        ensures unwritten { (c : List ℕ) → MayLeaveNow self.old.past c → MayLeaveNow self.new.past c }
-        ensures time { Elapses (now_of self.old.past) (now_of self.new.past) (LeftSinceOf self.old.past) (LeftSinceOf self.new.past) (MayLeaveNow self.new.past) }
+        ensures same { (self.new.blocks ≡ self.old.blocks) × (self.new.reads ≡ self.old.reads)
+            × (self.new.syncs ≡ self.old.syncs) }
+        ensures within { Torn (4096 * at.0)
+            (length bytes.now) self.old.bytes.items self.new.bytes.items }
+        ensures images { Follows (Torn (4096 * at.0) (length bytes.now))
+            (MayLeaveNow self.old.past) (MayLeaveNow self.new.past) }
+        ensures torn { OnOk result (Reaches (Torn (4096 * at.0) (length bytes.now))
+            (MayLeaveNow self.old.past) (MayLeaveNow self.new.past)) }
+        ensures unwritten { (c : List ℕ) → MayLeaveNow self.old.past c
+            → MayLeaveNow self.new.past c }
+        ensures time { Elapses (now_of self.old.past) (now_of self.new.past)
+            (LeftSinceOf self.old.past) (LeftSinceOf self.new.past) (MayLeaveNow self.new.past) }
         ensures faults { CountsFault self.old.faults self.new.faults result }
         ensures cause { HasCause self.old.faults self.new.faults result }
     {
@@ -276,17 +295,20 @@ impl Device for MemDevice {
         Ok(())
     }
 
-    /// Fails exactly where it is listed or the record has no room for it.
+    /// Fails exactly where it is listed or the log has no room for it.
     fn sync(&mut self) -> Result<(), Failed>
         ensures exact { IsErr result ↔ (IsDue self.old.syncs ⊎ ¬ TakesSync self.old.past) }
-        ensures stable { OnOk result ((c : List ℕ) → MayLeaveNow self.new.past c → c ≡ self.new.bytes.items) }
-        ensures recorded { OnOk result (GoesOn self.old.past self.new.past Synced) }
+        ensures stable { OnOk result ((c : List ℕ) → MayLeaveNow self.new.past c
+            → c ≡ self.new.bytes.items) }
+        ensures logged { OnOk result (GoesOn self.old.past self.new.past Synced) }
         ensures used { self.new.past.written ≡ self.old.past.written }
         ensures failed { OnErr result (self.new.past ≡ self.old.past) }
         ensures counted { self.new.syncs ≡ counted self.old.syncs }
-        ensures same { (self.new.blocks ≡ self.old.blocks) × (self.new.bytes ≡ self.old.bytes) × (self.new.reads ≡ self.old.reads) × (self.new.writes ≡ self.old.writes) }
+        ensures same { (self.new.blocks ≡ self.old.blocks) × (self.new.bytes ≡ self.old.bytes)
+            × (self.new.reads ≡ self.old.reads) × (self.new.writes ≡ self.old.writes) }
         ensures images { (c : List ℕ) → MayLeaveNow self.new.past c → MayLeaveNow self.old.past c }
-        ensures time { Elapses (now_of self.old.past) (now_of self.new.past) (LeftSinceOf self.old.past) (LeftSinceOf self.new.past) (MayLeaveNow self.new.past) }
+        ensures time { Elapses (now_of self.old.past) (now_of self.new.past)
+            (LeftSinceOf self.old.past) (LeftSinceOf self.new.past) (MayLeaveNow self.new.past) }
         ensures faults { CountsFault self.old.faults self.new.faults result }
         ensures cause { HasCause self.old.faults self.new.faults result }
     {

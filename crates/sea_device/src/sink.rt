@@ -55,9 +55,12 @@ impl Sink for MemSink {
     /// room for.
     fn put(&mut self, bytes: &[u8]) -> Result<usize, Failed>
         requires { 0 < length bytes.now }
-        ensures exact { IsErr result ↔ (IsDue self.old.failures ⊎ (self.old.room ≤ length self.old.bytes.items)) }
-        ensures count { IfOk result (λ n. n ≡ min (length bytes.now) (self.old.room - length self.old.bytes.items)) }
-        ensures bytes { IfOk result (λ n. self.new.bytes.items ≡ self.old.bytes.items ++ take n bytes.now) }
+        ensures exact { IsErr result ↔ (IsDue self.old.failures
+            ⊎ (self.old.room ≤ length self.old.bytes.items)) }
+        ensures count { IfOk result (λ n. n ≡ min (length bytes.now)
+            (self.old.room - length self.old.bytes.items)) }
+        ensures bytes { IfOk result (λ n. self.new.bytes.items ≡ self.old.bytes.items
+            ++ take n bytes.now) }
         ensures failed { OnErr result (self.new.bytes.items ≡ self.old.bytes.items) }
         ensures counted { self.new.failures ≡ counted self.old.failures }
         ensures same { self.new.room ≡ self.old.room }

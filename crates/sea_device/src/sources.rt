@@ -28,7 +28,8 @@ impl SteadySource {
     fn give(&mut self, into: &mut [u8]) -> usize
         requires { 0 < length into.old }
         ensures count { result ≡ min (length into.old) (length self.old.bytes - self.old.taken) }
-        ensures bytes { Hands result into.new (Some (drop self.old.taken self.old.bytes)) (Some (drop self.new.taken self.new.bytes)) }
+        ensures bytes { Hands result into.new (Some (drop self.old.taken self.old.bytes))
+            (Some (drop self.new.taken self.new.bytes)) }
         ensures rest { drop result into.new ≡ drop result into.old }
     {
         let rest = &self.bytes.bytes()[self.taken..];
@@ -46,8 +47,11 @@ impl Source for SteadySource {
 
     fn take(&mut self, into: &mut [u8]) -> Result<usize, Failed>
         requires { 0 < length into.old }
-        ensures count { IfOk result (λ n. n ≡ min (length into.old) (length self.old.bytes - self.old.taken)) }
-        ensures bytes { IfOk result (λ n. Hands n into.new (Some (drop self.old.taken self.old.bytes)) (Some (drop self.new.taken self.new.bytes))) }
+        ensures count { IfOk result (λ n. n ≡ min (length into.old)
+            (length self.old.bytes - self.old.taken)) }
+        ensures bytes { IfOk result (λ n. Hands n into.new
+            (Some (drop self.old.taken self.old.bytes))
+            (Some (drop self.new.taken self.new.bytes))) }
         ensures rest { IfOk result (λ n. drop n into.new ≡ drop n into.old) }
         ensures never { IsErr result → ⊥ }
     {
@@ -94,10 +98,14 @@ impl Source for MemSource {
     fn take(&mut self, into: &mut [u8]) -> Result<usize, Failed>
         requires { 0 < length into.old }
         ensures exact { IsErr result ↔ IsDue self.old.failures }
-        ensures count { IfOk result (λ n. n ≡ min (min (length into.old) self.old.piece) (length self.old.source.bytes - self.old.source.taken)) }
-        ensures bytes { IfOk result (λ n. Hands n into.new (Some (drop self.old.source.taken self.old.source.bytes)) (Some (drop self.new.source.taken self.new.source.bytes))) }
+        ensures count { IfOk result (λ n. n ≡ min (min (length into.old) self.old.piece)
+            (length self.old.source.bytes - self.old.source.taken)) }
+        ensures bytes { IfOk result (λ n. Hands n into.new
+            (Some (drop self.old.source.taken self.old.source.bytes))
+            (Some (drop self.new.source.taken self.new.source.bytes))) }
         ensures rest { IfOk result (λ n. drop n into.new ≡ drop n into.old) }
-        ensures failed { OnErr result ((self.new.source ≡ self.old.source) × (into.new ≡ into.old)) }
+        ensures failed { OnErr result ((self.new.source ≡ self.old.source)
+            × (into.new ≡ into.old)) }
         ensures counted { self.new.failures ≡ counted self.old.failures }
         ensures same { self.new.piece ≡ self.old.piece }
         ensures faults { CountsFault self.old.faults self.new.faults result }

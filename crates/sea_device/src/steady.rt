@@ -21,7 +21,8 @@ impl SteadyDevice {
     /// A device of zeros.
     pub fn new(alloc: Global, blocks: u32) -> Result<SteadyDevice, NoMemory>
         ensures size { IfOk result (λ made. ⟦<SteadyDevice as Device>⟧.size made ≡ blocks) }
-        ensures zeros { IfOk result (λ made. ⟦<SteadyDevice as Device>⟧.contents made ≡ Some (replicate (4096 * blocks) 0)) }
+        ensures zeros { IfOk result (λ made. ⟦<SteadyDevice as Device>⟧.contents made
+            ≡ Some (replicate (4096 * blocks) 0)) }
     {
         let bytes = vec![in alloc; 0; blocks as usize * BLOCK_BYTES]?;
         Ok(SteadyDevice { blocks, bytes })

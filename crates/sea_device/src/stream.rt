@@ -19,7 +19,8 @@ pub trait Source {
     fn take(&mut self, into: &mut [u8]) -> Result<usize, Failed>
         requires { 0 < length into.old }
         ensures count { IfOk result (λ n. n ≤ length into.old) }
-        ensures bytes { IfOk result (λ n. Hands n into.new (remaining self.old) (remaining self.new)) }
+        ensures bytes { IfOk result (λ n. Hands n into.new (remaining self.old)
+            (remaining self.new)) }
         ensures failed { OnErr result (remaining self.new ≡ remaining self.old) }
         ensures faults { CountsFault (faults self.old) (faults self.new) result }
         ensures cause { HasCause (faults self.old) (faults self.new) result };
@@ -37,7 +38,8 @@ pub trait Sink {
     fn put(&mut self, bytes: &[u8]) -> Result<usize, Failed>
         requires { 0 < length bytes.now }
         ensures count { IfOk result (λ n. (1 ≤ n) × (n ≤ length bytes.now)) }
-        ensures bytes { IfOk result (λ n. taken self.new ≡ option_map (λ t. t ++ take n bytes.now) (taken self.old)) }
+        ensures bytes { IfOk result (λ n. taken self.new
+            ≡ option_map (λ t. t ++ take n bytes.now) (taken self.old)) }
         ensures failed { OnErr result (taken self.new ≡ taken self.old) }
         ensures faults { CountsFault (faults self.old) (faults self.new) result }
         ensures cause { HasCause (faults self.old) (faults self.new) result };

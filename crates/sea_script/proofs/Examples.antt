@@ -2,10 +2,10 @@
 use Rattle.std.proofs.Common.{◌≡◌, [], ◌∷◌, ◌++◌, codes, refl, sym, inr, arith}
 use Rattle.std.specs.Fmt.{digits}
 use Rattle.hex.specs.Hex.{encode_with}
-use Rattle.sea_object.specs.declared.op.Op.TheVariants.{Write, Read}
-use Rattle.sea_object.specs.declared.reply.Item.TheVariants.{Unit as Done_item, Absent, Bytes}
-use Rattle.sea_object.specs.declared.reply.Reply.TheVariants.{Done, Full}
-use Rattle.sea_object.specs.Request.{IsRequest}
+use Rattle.sea_plain.specs.declared.op.Op.TheVariants.{Write, Read}
+use Rattle.sea_plain.specs.declared.reply.Item.TheVariants.{Unit as Done_item, Absent, Bytes}
+use Rattle.sea_plain.specs.declared.reply.Reply.TheVariants.{Done, Full}
+use Rattle.sea_plain.specs.Request.{IsRequest}
 use Rattle.sea_script.specs.declared.plan.Asked.{Asked}
 use Rattle.sea_script.specs.Render.{item_text, items_text, reply_text, entry_line, end_line}
 use Rattle.sea_script.specs.Script.{AreBytes, IsBlank, Asks, IsScript, byte_text, data_text, name_text, pair_text, request_text}

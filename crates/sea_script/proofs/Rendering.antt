@@ -5,10 +5,10 @@ use Rattle.std.specs.Fmt.{decimal}
 use Rattle.std.proofs.lemmas.Fmt.{decimal_injective, decimal_is_IsNumeral}
 use Rattle.std.proofs.lemmas.List.Elements.{All-from_get_or, All-head, All-tail}
 use Rattle.std.proofs.lemmas.Str.Parse.{digit_at}
-use Rattle.sea_object.specs.declared.reply.Item.{Item}
-use Rattle.sea_object.specs.declared.reply.Item.TheVariants.{Unit as Done_item, Absent, Bytes}
-use Rattle.sea_object.specs.declared.reply.Reply.{Reply}
-use Rattle.sea_object.specs.declared.reply.Reply.TheVariants.{Done, Full}
+use Rattle.sea_plain.specs.declared.reply.Item.{Item}
+use Rattle.sea_plain.specs.declared.reply.Item.TheVariants.{Unit as Done_item, Absent, Bytes}
+use Rattle.sea_plain.specs.declared.reply.Reply.{Reply}
+use Rattle.sea_plain.specs.declared.reply.Reply.TheVariants.{Done, Full}
 use Rattle.sea_script.specs.declared.history.Entry.{Entry}
 use Rattle.sea_script.specs.Script.{AreBytes, data_text}
 use Rattle.sea_script.specs.Render.{item_text, items_text, reply_text, entry_line}

@@ -8,13 +8,13 @@ use Rattle.std.specs.List.{flat_map, AllByRecursion, join_with_byte}
 use Rattle.std.proofs.lemmas.List.Splits.{join_with_byte-slice_split}
 use Rattle.std.specs.Fmt.{decimal}
 use Rattle.std.proofs.lemmas.List.{append-nil, length-append}
-use Rattle.sea_object.specs.declared.op.Op.{Op}
-use Rattle.sea_object.specs.declared.op.Op.TheVariants.{Write, Read}
-use Rattle.sea_object.specs.Op.{IsWithinLimits}
-use Rattle.sea_object.specs.Request.{IsRequest}
-use Rattle.sea_object.specs.Refusal.{Refuses}
-use Rattle.sea_object.specs.declared.request.RequestFault.{RequestFault}
-use Rattle.sea_object.specs.declared.request.RequestFault.TheVariants.{Empty, TooManyOps, BadRange, TooManyBlocks, TooManyKeys}
+use Rattle.sea_plain.specs.declared.op.Op.{Op}
+use Rattle.sea_plain.specs.declared.op.Op.TheVariants.{Write, Read}
+use Rattle.sea_plain.specs.Op.{IsWithinLimits}
+use Rattle.sea_plain.specs.Request.{IsRequest}
+use Rattle.sea_plain.specs.Refusal.{Refuses}
+use Rattle.sea_plain.specs.declared.request.RequestFault.{RequestFault}
+use Rattle.sea_plain.specs.declared.request.RequestFault.TheVariants.{Empty, TooManyOps, BadRange, TooManyBlocks, TooManyKeys}
 use Rattle.sea_script.specs.declared.plan.Asked.{Asked}
 use Rattle.sea_script.specs.Script.{AreBytes, HasBytes, Asks, data_text, name_text, op_words, ops_words, request_text, request_words}
 use Rattle.sea_script.specs.ScriptReading.{AreOps, Finds, IsSpelled, Reads, verb_word, words}

@@ -8,7 +8,7 @@ use Rattle.std.proofs.lemmas.List.Splits.{length-slice_split, slice_split-cons_n
 use Rattle.std.proofs.lemmas.List.{length-append}
 use Rattle.std.proofs.lemmas.List.Sums.{count_by-le-length}
 use Rattle.std.proofs.lemmas.Grind.{common_steps}
-use Rattle.sea_object.specs.declared.op.Op.{Op}
+use Rattle.sea_plain.specs.declared.op.Op.{Op}
 use Rattle.sea_script.specs.declared.plan.Asked.{Asked}
 use Rattle.sea_script.specs.ScriptReading.{AddsLine, fault_at, words}
 use Rattle.sea_script.specs.declared.script.ScriptFault.{ScriptFault}

@@ -7,8 +7,8 @@ use Rattle.std.proofs.lemmas.Bool.Decides.{nat_tests}
 use Rattle.std.proofs.lemmas.List.Elements.{All-append, All-cons, All-from_get_or, All-get_or, All-nil, All-weaker}
 use Rattle.std.proofs.lemmas.List.Splits.{slice_split_at, slice_split_none}
 use Rattle.hex.specs.Hex.{lower_digits}
-use Rattle.sea_object.specs.declared.op.Op.{Op}
-use Rattle.sea_object.specs.declared.op.Op.TheVariants.{Write, Read}
+use Rattle.sea_plain.specs.declared.op.Op.{Op}
+use Rattle.sea_plain.specs.declared.op.Op.TheVariants.{Write, Read}
 use Rattle.sea_script.specs.ScriptReading.{IsSpelled, words}
 use Rattle.sea_script.specs.Script.{AreBytes, byte_text, data_text, name_text, op_words, ops_words, pair_text, stands_for_itself}
 use Rattle.sea_script.proofs.Numbers.{spelled_digits}

@@ -2,10 +2,10 @@
 use Rattle.std.specs.Prelude.{ℕ, List, [], ◌∷◌, ◌++◌, codes}
 use Rattle.std.specs.List.{flat_map}
 use Rattle.std.specs.Fmt.{decimal}
-use Rattle.sea_object.specs.declared.reply.Item.{Item}
-use Rattle.sea_object.specs.declared.reply.Item.TheVariants.{Unit, Absent, Bytes}
-use Rattle.sea_object.specs.declared.reply.Reply.{Reply}
-use Rattle.sea_object.specs.declared.reply.Reply.TheVariants.{Done, Full}
+use Rattle.sea_plain.specs.declared.reply.Item.{Item}
+use Rattle.sea_plain.specs.declared.reply.Item.TheVariants.{Unit, Absent, Bytes}
+use Rattle.sea_plain.specs.declared.reply.Reply.{Reply}
+use Rattle.sea_plain.specs.declared.reply.Reply.TheVariants.{Done, Full}
 use Rattle.sea_script.specs.declared.history.Entry.{Entry}
 use Rattle.sea_script.specs.Script.{data_text}
 

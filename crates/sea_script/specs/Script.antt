@@ -3,9 +3,9 @@ use Rattle.std.specs.Prelude.{◌≡◌, ◌⊎◌, ℕ, ◌-◌, ◌<◌, ◌�
 use Rattle.std.specs.List.{flat_map, join_with_byte, slice_split, AllByRecursion}
 use Rattle.std.specs.Fmt.{decimal}
 use Rattle.hex.specs.Hex.{encode_lower}
-use Rattle.sea_object.specs.declared.op.Op.{Op}
-use Rattle.sea_object.specs.declared.op.Op.TheVariants.{Write, Read}
-use Rattle.sea_object.specs.Request.{IsRequest}
+use Rattle.sea_plain.specs.declared.op.Op.{Op}
+use Rattle.sea_plain.specs.declared.op.Op.TheVariants.{Write, Read}
+use Rattle.sea_plain.specs.Request.{IsRequest}
 use Rattle.sea_script.specs.declared.plan.Asked.{Asked}
 use Rattle.sea_script.specs.declared.script.ScriptFault.{ScriptFault}
 use Rattle.sea_script.specs.declared.script.ScriptFault.TheVariants.{NoMemory, Refused}

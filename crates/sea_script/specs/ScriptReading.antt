@@ -3,8 +3,8 @@ use Rattle.std.specs.Prelude.{◌≡◌, ℕ, List, [], ◌++◌, ◌==◌, ◌<
 use Rattle.std.specs.List.{AllByRecursion, slice_split}
 use Rattle.std.specs.Borrow.{Bor}
 use Rattle.sea_base.specs.Name.{IsName}
-use Rattle.sea_object.specs.declared.op.Op.{Op}
-use Rattle.sea_object.specs.declared.op.Op.TheVariants.{Write, Read}
+use Rattle.sea_plain.specs.declared.op.Op.{Op}
+use Rattle.sea_plain.specs.declared.op.Op.TheVariants.{Write, Read}
 use Rattle.sea_script.specs.Script.{AreBytes, Asks, IsBlank, ops_words}
 use Rattle.sea_script.specs.declared.plan.Asked.{Asked}
 use Rattle.sea_script.specs.declared.script.ScriptFault.{ScriptFault}

@@ -1,5 +1,5 @@
 //! What was served.
-use sea_object::Reply;
+use sea_plain::Reply;
 
 /// A served request: its client, its number among that client's requests, from 1 on, and its reply.
 #[derive(Debug, Drop)]

@@ -1,6 +1,6 @@
 //! What a script asks for.
 use sea_base::Sequence;
-use sea_object::Request;
+use sea_plain::Request;
 
 /// A request, and the client that makes it. Clients count from 1.
 #[derive(Debug, Drop)]

@@ -6,7 +6,7 @@ ghost use Rattle.sea_script.specs.Render.{item_text, items_text, reply_text, ent
 
 use crate::Entry;
 use sea_base::NoMemory;
-use sea_object::{Item, Reply};
+use sea_plain::{Item, Reply};
 use std::alloc::Global;
 use std::fmt::Write;
 

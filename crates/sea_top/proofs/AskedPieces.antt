@@ -4,12 +4,12 @@ use Rattle.std.specs.Prelude.{sum_by}
 use Rattle.std.specs.List.{AllByRecursion}
 use Rattle.std.specs.FinMap as map
 use Rattle.std.proofs.lemmas.List.Sums.{sum_by-cons}
-use Rattle.sea_object.specs.declared.op.Op.{Op}
-use Rattle.sea_object.specs.declared.op.Op.TheVariants.{Write, Read}
-use Rattle.sea_object.specs.Op.{IsWithinLimits, data_blocks, blocks_touched}
-use Rattle.sea_object.specs.Request.{IsRequest}
-use Rattle.sea_object.specs.Objects.{ObjectMap, object_at}
-use Rattle.sea_object.specs.Answer.{after, laid, written}
+use Rattle.sea_plain.specs.declared.op.Op.{Op}
+use Rattle.sea_plain.specs.declared.op.Op.TheVariants.{Write, Read}
+use Rattle.sea_plain.specs.Op.{IsWithinLimits, data_blocks, blocks_touched}
+use Rattle.sea_plain.specs.Request.{IsRequest}
+use Rattle.sea_plain.specs.Objects.{ObjectMap, object_at}
+use Rattle.sea_plain.specs.Answer.{after, laid, written}
 use Rattle.sea_top.specs.declared.record.Piece.{Piece}
 use Rattle.sea_top.specs.Record.{IsPiece, piece_bytes, body_bytes, blocks_of}
 use Rattle.sea_top.specs.Trail.{after_piece, after_pieces}

@@ -2,12 +2,12 @@
 use Rattle.std.proofs.Common.{◌≡◌, ◌⊎◌, ℕ, ◌<◌, List, [], ◌∷◌, ◌++◌, length, replicate, codes, refl, sym, ap, ◌∙◌, inl, inr, arith, Option, Some, None}
 use Rattle.std.specs.Fmt.{digits}
 use Rattle.sea_base.specs.Field.{big_endian}
-use Rattle.sea_object.specs.declared.op.Op.{Op}
-use Rattle.sea_object.specs.declared.op.Op.TheVariants.{Write, Read}
-use Rattle.sea_object.specs.declared.reply.Item.TheVariants.{Unit as Done_item, Absent, Bytes}
-use Rattle.sea_object.specs.declared.reply.Reply.TheVariants.{Done, Full}
-use Rattle.sea_object.specs.Objects.{ObjectMap, ObjectValue}
-use Rattle.sea_object.specs.Answer.{read_item}
+use Rattle.sea_plain.specs.declared.op.Op.{Op}
+use Rattle.sea_plain.specs.declared.op.Op.TheVariants.{Write, Read}
+use Rattle.sea_plain.specs.declared.reply.Item.TheVariants.{Unit as Done_item, Absent, Bytes}
+use Rattle.sea_plain.specs.declared.reply.Reply.TheVariants.{Done, Full}
+use Rattle.sea_plain.specs.Objects.{ObjectMap, ObjectValue}
+use Rattle.sea_plain.specs.Answer.{read_item}
 use Rattle.std.specs.FinMap as map
 use Rattle.sea_script.specs.declared.plan.Asked.{Asked}
 use Rattle.sea_script.specs.declared.history.Entry.{Entry}

@@ -5,9 +5,9 @@ use Rattle.std.specs.List.{AllByRecursion, range_with_len}
 use Rattle.std.specs.Option.{option_map}
 use Rattle.std.proofs.lemmas.Option.{slice_get-map}
 use Rattle.std.proofs.lemmas.List.{map-append, length-map}
-use Rattle.sea_object.specs.declared.op.Op.{Op}
-use Rattle.sea_object.specs.declared.reply.Reply.{Reply}
-use Rattle.sea_object.specs.Objects.{ObjectMap}
+use Rattle.sea_plain.specs.declared.op.Op.{Op}
+use Rattle.sea_plain.specs.declared.reply.Reply.{Reply}
+use Rattle.sea_plain.specs.Objects.{ObjectMap}
 use Rattle.sea_script.specs.declared.plan.Asked.{Asked}
 use Rattle.sea_script.specs.declared.history.Entry.{Entry}
 use Rattle.sea_top.specs.History.{requests_of, numbers_of, IsReply, after_reply, Legal, Serves, ServesFully}

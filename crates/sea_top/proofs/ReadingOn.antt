@@ -1,10 +1,12 @@
 -- One reading after another.
 use Rattle.std.proofs.Common.{ℕ, ◌≤◌, Bool, List, Option, refl, ◌∙◌, inl, inr, arith}
-use Rattle.sea_device.specs.Device.{FaultsRose, OnlyRead}
+use Rattle.sea_device.specs.declared.device.Device.{Ghosts}
+use Rattle.sea_device.specs.Device.{FaultsRose}
+use Rattle.sea_device.specs.Calls.{OnlyRead}
 
-module _ {D : Type 0} {blocks : D → ℕ} {bytes : D → Option (List ℕ)} {tells : D → Bool} {leaves : D → List ℕ → Type 0} {moment : D → ℕ} {since : D → ℕ → List ℕ → Type 0} where
+module _ {D : Type 0} {g : Ghosts D} where
   -- reading nothing
-  pub OnlyRead-none : (d : D) → OnlyRead blocks bytes tells leaves moment since d d
+  pub OnlyRead-none : (d : D) → OnlyRead g d d
   OnlyRead-none d = record {
     size = refl;
     contents = refl;
@@ -14,7 +16,7 @@ module _ {D : Type 0} {blocks : D → ℕ} {bytes : D → Option (List ℕ)} {te
   }
 
   -- reading on
-  pub OnlyRead-more : (d e f : D) → OnlyRead blocks bytes tells leaves moment since d e → OnlyRead blocks bytes tells leaves moment since e f → OnlyRead blocks bytes tells leaves moment since d f
+  pub OnlyRead-more : (d e f : D) → OnlyRead g d e → OnlyRead g e f → OnlyRead g d f
   OnlyRead-more d e f first second = record {
     size = second.size ∙ first.size;
     contents = second.contents ∙ first.contents;

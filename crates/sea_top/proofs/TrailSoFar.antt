@@ -3,7 +3,7 @@ use Rattle.std.proofs.Common.{◌≡◌, ℕ, ◌+◌, List, [], ◌∷◌, ◌+
 use Rattle.std.specs.FinMap as map
 use Rattle.std.proofs.lemmas.List.{append-nil, length_push}
 use Rattle.std.proofs.lemmas.List.Concat.{flat_map-append}
-use Rattle.sea_object.specs.Objects.{ObjectMap}
+use Rattle.sea_plain.specs.Objects.{ObjectMap}
 use Rattle.sea_top.specs.declared.record.Piece.{Piece}
 use Rattle.sea_top.specs.declared.record.PlainRecord.{PlainRecord}
 use Rattle.sea_top.specs.declared.trail.Found.{Found}

@@ -1,11 +1,12 @@
 -- What a crash leaves of a run: the objects after the first entries of its history.
 use Rattle.std.specs.Prelude.{◌≡◌, ◌⊎◌, ℕ, ◌+◌, ◌-◌, ◌≤◌, List, [], ◌∷◌, length, map, take, replicate, Option, Some, slice_get, unwrap_or}
 use Rattle.std.specs.List.{flat_map}
+use Rattle.sea_device.specs.declared.device.Device.{Ghosts}
 use Rattle.sea_device.specs.Device.{Follows}
-use Rattle.sea_object.specs.declared.op.Op.{Op}
-use Rattle.sea_object.specs.declared.reply.Reply.{Reply}
-use Rattle.sea_object.specs.declared.reply.Reply.TheVariants.{Done, Full}
-use Rattle.sea_object.specs.Objects.{ObjectMap}
+use Rattle.sea_plain.specs.declared.op.Op.{Op}
+use Rattle.sea_plain.specs.declared.reply.Reply.{Reply}
+use Rattle.sea_plain.specs.declared.reply.Reply.TheVariants.{Done, Full}
+use Rattle.sea_plain.specs.Objects.{ObjectMap}
 use Rattle.sea_script.specs.declared.plan.Asked.{Asked}
 use Rattle.sea_script.specs.declared.history.Entry.{Entry}
 use Rattle.sea_top.specs.declared.record.Piece.{Piece}
@@ -56,15 +57,15 @@ SameFront at old new = take at new ≡ take at old
 
 -- A device changed behind a place alone: its bytes, and what a crash may leave now or may have left since, keep the
 -- front of what was there before.
-pub record ChangesBehind {D : Type 0} (at : ℕ) (bytes : D → Option (List ℕ)) (leaves : D → List ℕ → Type 0) (moment : D → ℕ) (since : D → ℕ → List ℕ → Type 0) (old new : D) : Type 0 where
-  pub contents : (b c : List ℕ) → bytes old ≡ Some b → bytes new ≡ Some c → SameFront at b c
-  pub images : Follows (SameFront at) (leaves old) (leaves new)
-  pub later : moment old ≤ moment new
-  pub moments : (t : ℕ) (c : List ℕ) → t ≤ moment old → since new t c → since old t c ⊎ ((d : List ℕ) × leaves old d × SameFront at d c)
+pub record ChangesBehind {D : Type 0} (at : ℕ) (g : Ghosts D) (old new : D) : Type 0 where
+  pub contents : (b c : List ℕ) → g.contents old ≡ Some b → g.contents new ≡ Some c → SameFront at b c
+  pub images : Follows (SameFront at) (g.may_leave old) (g.may_leave new)
+  pub later : g.clock old ≤ g.clock new
+  pub moments : (t : ℕ) (c : List ℕ) → t ≤ g.clock old → g.left_since new t c → g.left_since old t c ⊎ ((d : List ℕ) × g.may_leave old d × SameFront at d c)
   -- a crash since t may have left what it might have left before, or what it may have left since any later moment u
   -- of the old device
-  pub later_ones : (t u : ℕ) (c : List ℕ) → t ≤ u → u ≤ moment old → since new t c → since old t c ⊎ since new u c
-  pub keeps : (t : ℕ) (c : List ℕ) → t ≤ moment old → since old t c → since new t c
+  pub later_ones : (t u : ℕ) (c : List ℕ) → t ≤ u → u ≤ g.clock old → g.left_since new t c → g.left_since old t c ⊎ g.left_since new u c
+  pub keeps : (t : ℕ) (c : List ℕ) → t ≤ g.clock old → g.left_since old t c → g.left_since new t c
 
 -- The image opens to the objects after the first entries of a history, at least so many of them.
 pub record OpensToPrefix (plan : List Asked) (first : ObjectMap) (history : List Entry) (least : ℕ) (image : List ℕ) : Type 0 where

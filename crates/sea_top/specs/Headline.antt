@@ -1,7 +1,7 @@
 -- What the command `steps` promises, of the device, the source and the sink that it was given.
 use Rattle.std.specs.Prelude.{◌≡◌, ◌⊎◌, ℕ, ◌-◌, ◌≤◌, List, [], ◌++◌, length, take, Option, Some, None, IfSome}
 use Rattle.std.specs.List.{flat_map}
-use Rattle.sea_object.specs.Objects.{ObjectMap}
+use Rattle.sea_plain.specs.Objects.{ObjectMap}
 use Rattle.sea_script.specs.declared.plan.Asked.{Asked}
 use Rattle.sea_script.specs.declared.history.Entry.{Entry}
 use Rattle.sea_top.specs.declared.record.PlainRecord.{PlainRecord}

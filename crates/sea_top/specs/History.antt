@@ -1,11 +1,11 @@
 -- Histories of served requests.
 use Rattle.std.specs.Prelude.{◌≡◌, ℕ, ◌-◌, ◌≤◌, List, [], ◌∷◌, length, map, filter, nat_eq, Some, slice_get}
 use Rattle.std.specs.List.{range_with_len}
-use Rattle.sea_object.specs.declared.op.Op.{Op}
-use Rattle.sea_object.specs.declared.reply.Reply.{Reply}
-use Rattle.sea_object.specs.declared.reply.Reply.TheVariants.{Done, Full}
-use Rattle.sea_object.specs.Objects.{ObjectMap}
-use Rattle.sea_object.specs.Answer.{answer, after}
+use Rattle.sea_plain.specs.declared.op.Op.{Op}
+use Rattle.sea_plain.specs.declared.reply.Reply.{Reply}
+use Rattle.sea_plain.specs.declared.reply.Reply.TheVariants.{Done, Full}
+use Rattle.sea_plain.specs.Objects.{ObjectMap}
+use Rattle.sea_plain.specs.Answer.{answer, after}
 use Rattle.sea_script.specs.declared.plan.Asked.{Asked}
 use Rattle.sea_script.specs.declared.history.Entry.{Entry}
 

@@ -1,8 +1,8 @@
 -- What a request writes, and the room that its record needs.
 use Rattle.std.specs.Prelude.{ℕ, List, [], ◌∷◌}
 use Rattle.std.specs.List.{flat_map}
-use Rattle.sea_object.specs.declared.op.Op.{Op}
-use Rattle.sea_object.specs.declared.op.Op.TheVariants.{Write, Read}
+use Rattle.sea_plain.specs.declared.op.Op.{Op}
+use Rattle.sea_plain.specs.declared.op.Op.TheVariants.{Write, Read}
 use Rattle.sea_top.specs.declared.record.Piece.{Piece}
 use Rattle.sea_top.specs.Record.{blocks_of}
 

@@ -1,8 +1,8 @@
 -- When a request is answered full.
 use Rattle.std.specs.Prelude.{◌≡◌, ℕ, ◌-◌, ◌<◌, ◌≤◌, List, [], ◌∷◌, Some, slice_get}
-use Rattle.sea_object.specs.declared.op.Op.{Op}
-use Rattle.sea_object.specs.declared.reply.Reply.{Reply}
-use Rattle.sea_object.specs.declared.reply.Reply.TheVariants.{Done, Full}
+use Rattle.sea_plain.specs.declared.op.Op.{Op}
+use Rattle.sea_plain.specs.declared.reply.Reply.{Reply}
+use Rattle.sea_plain.specs.declared.reply.Reply.TheVariants.{Done, Full}
 use Rattle.sea_script.specs.declared.plan.Asked.{Asked}
 use Rattle.sea_script.specs.declared.history.Entry.{Entry}
 use Rattle.sea_top.specs.Pieces.{need_of}

@@ -1,7 +1,7 @@
 -- Serving the requests of one client.
 use Rattle.std.specs.Prelude.{◌≡◌, ℕ, ◌≤◌, List, ◌++◌, length, map}
 use Rattle.std.specs.List.{AllByRecursion, range_with_len}
-use Rattle.sea_object.specs.Objects.{ObjectMap}
+use Rattle.sea_plain.specs.Objects.{ObjectMap}
 use Rattle.sea_script.specs.declared.plan.Asked.{Asked}
 use Rattle.sea_script.specs.declared.history.Entry.{Entry}
 use Rattle.sea_top.specs.declared.queue.Queue.{Queue}

@@ -3,8 +3,8 @@ use Rattle.std.specs.Prelude.{◌≡◌, ℕ, ◌+◌, ◌*◌, ◌≤◌, List,
 use Rattle.std.specs.List.{flat_map}
 use Rattle.std.specs.FinMap as map
 use Rattle.sea_device.specs.Device.{FaultsRose}
-use Rattle.sea_object.specs.Objects.{ObjectMap, object_at}
-use Rattle.sea_object.specs.Answer.{laid}
+use Rattle.sea_plain.specs.Objects.{ObjectMap, object_at}
+use Rattle.sea_plain.specs.Answer.{laid}
 use Rattle.sea_top.specs.declared.record.Piece.{Piece}
 use Rattle.sea_top.specs.declared.record.PlainRecord.{PlainRecord}
 use Rattle.sea_top.specs.declared.trail.Found.{Found}

@@ -23,7 +23,7 @@ pub fn write_behind<D: Device>(
     ensures written { OnOk result (D.contents device.new
         ≡ option_map (overwritten (4096 * place.0) (batch bytes.items rest)) (D.contents device.old)) }
     ensures stable { OnOk result ((c : List ℕ) → D.may_leave device.new c → IfSome (D.contents device.new) (λ b. c ≡ b)) }
-    ensures behind { ChangesBehind (4096 * place.0) D.contents D.may_leave D.clock D.left_since device.old device.new }
+    ensures behind { ChangesBehind (4096 * place.0) D.Device device.old device.new }
     ensures size { D.size device.new ≡ D.size device.old }
     ensures cause { Fails (D.faults device.old) (D.faults device.new) Refusal.DeviceFault result }
 {

@@ -87,7 +87,7 @@ impl Queue {
             → Waits (behind records (D.size device.old)) self news
             → OnOk result (Keeps (records ++ news) (D.contents device.new) (D.may_leave device.new)) }
         // A crash keeps what stands before the records.
-        ensures behind { ChangesBehind (4096 * self.place.0) D.contents D.may_leave D.clock D.left_since device.old device.new }
+        ensures behind { ChangesBehind (4096 * self.place.0) D.Device device.old device.new }
         ensures size { D.size device.new ≡ D.size device.old }
         ensures cause { Fails (D.faults device.old) (D.faults device.new) Refusal.DeviceFault result }
     {

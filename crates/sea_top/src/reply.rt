@@ -12,7 +12,7 @@ use crate::queue::Queue;
 use crate::record_blocks;
 use crate::request_pieces::pieces_asked;
 use sea_base::NoMemory;
-use sea_object::{Objects, Reply, Request};
+use sea_plain::{Objects, Reply, Request};
 use std::alloc::Global;
 
 /// Answers a request over the objects, and queues its record where it has one.

@@ -4,7 +4,7 @@ ghost use Rattle.sea_top.specs.Pieces.{pieces_asked};
 
 use crate::{Piece, Pieces};
 use sea_base::{Duplicate, NoMemory};
-use sea_object::Op;
+use sea_plain::Op;
 use std::alloc::Global;
 
 /// The pieces of a request's record: one for each write, in order.

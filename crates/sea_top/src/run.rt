@@ -89,7 +89,7 @@ fn write_out<D: Device>(
         → IsTrail image records → ((c : List ℕ) → D.may_leave device.old c → c ≡ image)
         → Waits (behind records (D.size device.old)) queue news
         → IfNone result (Keeps (records ++ news) (D.contents device.new) (D.may_leave device.new)) }
-    ensures behind { ChangesBehind (4096 * queue.place.0) D.contents D.may_leave D.clock D.left_since device.old device.new }
+    ensures behind { ChangesBehind (4096 * queue.place.0) D.Device device.old device.new }
     ensures served { IfNone result (IsOk served) }
     ensures later { D.faults device.old ≤ D.faults device.new }
     ensures cause { IfSome result (λ refusal. (refusal ≡ Refusal.NoMemory)

@@ -1,6 +1,6 @@
 //! Serving a plan over the objects.
 ghost use Rattle.std.specs.Prelude.{◌≡◌, ◌≤◌, List, [], length, OnOk, IsOk};
-ghost use Rattle.sea_object.specs.Objects.{ObjectMap};
+ghost use Rattle.sea_plain.specs.Objects.{ObjectMap};
 ghost use Rattle.sea_top.specs.Crash.{IsLog};
 ghost use Rattle.sea_top.specs.Queue.{Start, Waits};
 ghost use Rattle.sea_top.specs.Trail.{Linked};
@@ -10,7 +10,7 @@ ghost use Rattle.sea_top.specs.Serving.{AsksFirst, Served, Queues};
 use crate::queue::Queue;
 use crate::reply::reply_to;
 use sea_base::{NoMemory, Sequence};
-use sea_object::Objects;
+use sea_plain::Objects;
 use sea_script::{Asked, Entry};
 use std::alloc::Global;
 

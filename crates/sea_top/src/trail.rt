@@ -1,7 +1,7 @@
 //! Reading the trail of a device, one record after the other.
 ghost use Rattle.std.specs.Prelude.{◌≡◌, ◌+◌, ◌-◌, ◌*◌, ◌≤◌, ◌<◌, ◌^◌, ◌++◌, length, slice_range, vec_len, IfOk, IfSome, OnOk, MatchOption};
 ghost use Rattle.std.specs.FinMap as map;
-ghost use Rattle.sea_device.specs.Device.{OnlyRead};
+ghost use Rattle.sea_device.specs.Calls.{OnlyRead};
 ghost use Rattle.sea_top.specs.Record.{BeginsWith, BeginsWithNone};
 ghost use Rattle.sea_top.specs.Trail.{StandsAt, NoneStandsAt, Continues, NoneContinues, IsFound, HoldsRecord, BlamesDevice, IsTrailOf, after_pieces};
 ghost use Rattle.sea_top.specs.declared.trail.TrailFault.TheVariants.{NoMemory as OutOfMemory, DeviceFault};
@@ -10,7 +10,7 @@ use crate::record::{BLOCKS_AT, DIGEST_AT};
 use crate::{Piece, PlainRecord, RECORD_BLOCKS, read_record};
 use sea_base::{BLOCK_BYTES, Digest, NoMemory, Paddr, digest_at, u32_at};
 use sea_device::{Device, Failed};
-use sea_object::Objects;
+use sea_plain::Objects;
 use std::alloc::{AllocError, Global};
 use thiserror::Error;
 
@@ -76,7 +76,7 @@ pub fn read_trail<D: Device>(alloc: Global, device: &mut D) -> Result<Trail, Tra
     ensures trail { IfOk result (λ trail. IfSome (D.contents device.old) (IsTrailOf trail)) }
     ensures within { IfOk result (λ trail. trail.end ≤ D.size device.old) }
     ensures next { IfOk result (λ trail. (1 ≤ trail.commit) × (trail.commit ≤ trail.end + 1) × (length trail.previous.0 ≡ 32)) }
-    ensures read { OnlyRead D.size D.contents D.tells_images D.may_leave D.clock D.left_since device.old device.new }
+    ensures read { OnlyRead D.Device device.old device.new }
     ensures cause { BlamesDevice (D.faults device.old) (D.faults device.new) result }
 {
     let blocks = device.blocks();
@@ -113,7 +113,7 @@ fn next_record<D: Device>(
 ) -> Result<Option<Found>, TrailFault>
     ensures found { IfOk result (λ found. IfSome (D.contents device.old) (λ image. MatchOption found (NoneContinues image trail.now.end trail.now.commit trail.now.previous.0) (λ f. Continues image trail.now.end trail.now.commit trail.now.previous.0 f.plain))) }
     ensures parts { IfOk result (λ found. IfSome found (λ f. IsFound f × (trail.now.end + f.blocks ≤ D.size device.old))) }
-    ensures read { OnlyRead D.size D.contents D.tells_images D.may_leave D.clock D.left_since device.old device.new }
+    ensures read { OnlyRead D.Device device.old device.new }
     ensures cause { BlamesDevice (D.faults device.old) (D.faults device.new) result }
 {
     let Some(bytes) = record_bytes(alloc, device, trail.end)? else {
@@ -154,7 +154,7 @@ fn record_bytes<D: Device>(
     ensures bytes { IfOk result (λ found. IfSome (D.contents device.old) (λ image. MatchOption found (NoneStandsAt image place) (λ bytes. HoldsRecord image place bytes.items))) }
     ensures some { IfOk result (λ found. IfSome found (λ bytes. 4096 ≤ length bytes.items)) }
     ensures within { IfOk result (λ found. IfSome found (λ bytes. 4096 * place + length bytes.items ≤ 4096 * D.size device.old)) }
-    ensures read { OnlyRead D.size D.contents D.tells_images D.may_leave D.clock D.left_since device.old device.new }
+    ensures read { OnlyRead D.Device device.old device.new }
     ensures cause { BlamesDevice (D.faults device.old) (D.faults device.new) result }
 {
     let left = device.blocks().saturating_sub(place);
@@ -185,7 +185,7 @@ fn append_blocks<D: Device>(
     requires few { length bytes.old.items ≤ 4096 }
     ensures bytes { OnOk result (IfSome (D.contents device.old) (λ image. bytes.new.items ≡ bytes.old.items ++ slice_range image (4096 * place) (4096 * (place + count)))) }
     ensures len { OnOk result (length bytes.new.items ≡ length bytes.old.items + 4096 * count) }
-    ensures read { OnlyRead D.size D.contents D.tells_images D.may_leave D.clock D.left_since device.old device.new }
+    ensures read { OnlyRead D.Device device.old device.new }
     ensures cause { BlamesDevice (D.faults device.old) (D.faults device.new) result }
 {
     let from = bytes.len();

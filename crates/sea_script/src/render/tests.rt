@@ -1,7 +1,7 @@
 use super::*;
 use crate::Entry;
 use sea_base::Data;
-use sea_object::Items;
+use sea_plain::Items;
 use std::test::Fail;
 
 #[test]

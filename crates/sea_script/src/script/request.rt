@@ -8,7 +8,7 @@ use crate::script::fault::LineFault;
 use crate::script::parts::Parts;
 use crate::script::word::{NOT_BUILT, data, name, number, word};
 use sea_base::Sequence;
-use sea_object::{Op, Ops, Request};
+use sea_plain::{Op, Ops, Request};
 use std::alloc::Global;
 
 /// The request that a line asks for.

@@ -1,5 +1,5 @@
 use super::*;
-use sea_object::Op;
+use sea_plain::Op;
 use std::test::Fail;
 
 #[test]

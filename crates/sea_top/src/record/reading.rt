@@ -7,7 +7,7 @@ ghost use Rattle.sea_top.specs.RecordParts.{BeginsWithPiece, BeginsWithNoPiece, 
 use crate::record::header::{DIGEST_AT, HEADER_BYTES, Header, read_header};
 use crate::{Piece, Pieces, PlainRecord};
 use sea_base::{BLOCK_BYTES, Data, Name, NameFault, NoMemory, is_zero, sealed_digest, u32_at};
-use sea_object::OBJECT_BYTES;
+use sea_plain::OBJECT_BYTES;
 use std::alloc::Global;
 
 /// How many blocks a record takes at most.

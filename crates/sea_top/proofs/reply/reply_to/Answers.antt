@@ -3,7 +3,7 @@ use Rattle.std.specs.List.{AllByRecursion}
 use Rattle.std.proofs.lemmas.Bool.{eqb-true}
 use Rattle.std.proofs.lemmas.List.{append-nil}
 use Rattle.std.proofs.lemmas.Result.{IfOk-weaker}
-use Rattle.sea_object.specs.Answer.{after}
+use Rattle.sea_plain.specs.Answer.{after}
 use Rattle.sea_top.specs.declared.record.Piece.{Piece}
 use Rattle.sea_top.specs.Record.{IsPiece, blocks_of}
 use Rattle.sea_top.specs.Trail.{after_pieces, pieces_of}

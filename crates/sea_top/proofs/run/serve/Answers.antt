@@ -37,8 +37,8 @@ returns-clause-serves g c image held =
     let logged = c.serve_all-served.ensures.logged (behind told.records (g.D.Device.size c.read_trail.new.device)) waits in
     let placed : 4096 * c.serve_all-served.new.queue.place.0 ≡ 4096 * chain_end 0 told.records = ap (λ (p : Paddr). 4096 * p.0) c.serve_all-served.ensures.place ∙ ap (λ (n : ℕ). 4096 * n) waits.placed in
     let at = 4096 * chain_end 0 told.records in
-    let behind_trail : ChangesBehind at g.D.Device.contents g.D.Device.may_leave g.D.Device.clock g.D.Device.left_since c.read_trail.new.device c.write_out-ending.new.device =
-    subst (λ (n : ℕ). ChangesBehind n g.D.Device.contents g.D.Device.may_leave g.D.Device.clock g.D.Device.left_since c.read_trail.new.device c.write_out-ending.new.device) placed c.write_out-ending.ensures.behind in
-    serving c.args.plan.now image (g.D.Device.size c.args.device.now) c.serve_all-served.new.entries c.count_acknowledged-acknowledged.result c.write_out-ending.result (g.D.Device.contents c.write_out-ending.new.device) (g.D.Device.may_leave c.write_out-ending.new.device) (g.D.Device.may_leave c.args.device.now) (g.D.Device.clock c.args.device.now) (g.D.Device.clock c.write_out-ending.new.device) (g.D.Device.left_since c.write_out-ending.new.device) told.records logged.0 trail.objects c.serve_all-served.new.objects c.new-queue.result.rest c.serve_all-served.new.queue.rest c.requires.first told.is_trail told.objects (omega (arith, waits.room, ap length waits.spelled, c.read_trail.ensures.read.size, c.sync.ensures.size)) acked c.count_acknowledged-acknowledged.ensures.none (few_acknowledged c.write_out-ending.result c.count_acknowledged-acknowledged.result (length c.serve_all-served.new.entries) acked c.count_acknowledged-acknowledged.ensures.none) logged.1 logged.2 (written_moments g.D.Device.may_leave g.D.Device.clock g.D.Device.left_since at image c.args.device.now c.sync.new.self c.read_trail.new.device c.write_out-ending.new.device c.sync.ensures.images c.sync.ensures.time c.read_trail.ensures.read g.met.D.Device.only_now only behind_trail) (written_images g.D.Device.may_leave g.D.Device.clock g.D.Device.left_since at image c.read_trail.new.device c.write_out-ending.new.device only behind_trail) (λ b is. behind_trail.contents image b read is) c.serve_all-served.result c.serve_all-served.ensures.entries c.serve_all-served.ensures.all c.write_out-ending.ensures.served (on_ok_weaker c.serve_all-served.result (λ (queues : Queues trail.objects c.serve_all-served.new.objects c.new-queue.result c.serve_all-served.new.queue).
+    let behind_trail : ChangesBehind at g.D.Device c.read_trail.new.device c.write_out-ending.new.device =
+    subst (λ (n : ℕ). ChangesBehind n g.D.Device c.read_trail.new.device c.write_out-ending.new.device) placed c.write_out-ending.ensures.behind in
+    serving c.args.plan.now image (g.D.Device.size c.args.device.now) c.serve_all-served.new.entries c.count_acknowledged-acknowledged.result c.write_out-ending.result (g.D.Device.contents c.write_out-ending.new.device) (g.D.Device.may_leave c.write_out-ending.new.device) (g.D.Device.may_leave c.args.device.now) (g.D.Device.clock c.args.device.now) (g.D.Device.clock c.write_out-ending.new.device) (g.D.Device.left_since c.write_out-ending.new.device) told.records logged.0 trail.objects c.serve_all-served.new.objects c.new-queue.result.rest c.serve_all-served.new.queue.rest c.requires.first told.is_trail told.objects (omega (arith, waits.room, ap length waits.spelled, c.read_trail.ensures.read.size, c.sync.ensures.size)) acked c.count_acknowledged-acknowledged.ensures.none (few_acknowledged c.write_out-ending.result c.count_acknowledged-acknowledged.result (length c.serve_all-served.new.entries) acked c.count_acknowledged-acknowledged.ensures.none) logged.1 logged.2 (written_moments g.D.Device at image c.args.device.now c.sync.new.self c.read_trail.new.device c.write_out-ending.new.device c.sync.ensures.images c.sync.ensures.time c.read_trail.ensures.read g.met.D.Device.only_now only behind_trail) (written_images g.D.Device at image c.read_trail.new.device c.write_out-ending.new.device only behind_trail) (λ b is. behind_trail.contents image b read is) c.serve_all-served.result c.serve_all-served.ensures.entries c.serve_all-served.ensures.all c.write_out-ending.ensures.served (on_ok_weaker c.serve_all-served.result (λ (queues : Queues trail.objects c.serve_all-served.new.objects c.new-queue.result c.serve_all-served.new.queue).
     let queued = queues (behind told.records (g.D.Device.size c.read_trail.new.device)) [] waits in
     if_none _ _ c.write_out-ending.result (keeps_objects told.records queued.0 (g.D.Device.contents c.write_out-ending.new.device) (g.D.Device.may_leave c.write_out-ending.new.device) c.serve_all-served.new.objects (queued.2 ∙ ap (after_pieces (pieces_of queued.0)) told.objects)) (c.write_out-ending.ensures.kept image told.records queued.0 read told.is_trail only queued.1)) c.serve_all-served.ensures.queued)

@@ -1,12 +1,12 @@
 use Rattle.std.proofs.Common.{◌≡◌, ◌+◌, ◌-◌, ◌≤◌, IfSome, length}
-use Rattle.sea_device.specs.Device.{OnlyRead}
+use Rattle.sea_device.specs.Calls.{OnlyRead}
 use Rattle.sea_top.proofs.TrailSoFar.{HasRead}
 use Rattle.sea_top.proofs.trail.read_trail.Given as goal
 
 abbrev pub invariant-loop-trail : goal.invariant-loop-trail
 invariant-loop-trail g l = record {
   read_so_far : IfSome (g.D.Device.contents l.fn.device) (HasRead l.trail);
-  only_read : OnlyRead g.D.Device.size g.D.Device.contents g.D.Device.tells_images g.D.Device.may_leave g.D.Device.clock g.D.Device.left_since l.fn.device l.device;
+  only_read : OnlyRead g.D.Device l.fn.device l.device;
   later : g.D.Device.faults l.fn.device ≤ g.D.Device.faults l.device;
   within : l.trail.end ≤ g.D.Device.size l.fn.device;
   some : 1 ≤ l.trail.commit;

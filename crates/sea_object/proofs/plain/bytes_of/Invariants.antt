@@ -1,6 +1,0 @@
-use Rattle.std.proofs.Common.{◌≡◌, drop}
-use Rattle.sea_object.specs.Scan.{newest}
-use Rattle.sea_object.proofs.plain.bytes_of.Given as goal
-
-abbrev pub invariant-loop-other : goal.invariant-loop-other
-invariant-loop-other l = newest l.name (drop l.other-index l.written) ≡ newest l.name l.written

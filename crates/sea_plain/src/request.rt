@@ -1,0 +1,98 @@
+//! Requests, and the limits of each.
+ghost use Rattle.std.specs.Prelude.{◌≡◌, IfOk, IfErr, OnOk};
+ghost use Rattle.sea_plain.specs.Request.{IsRequest};
+ghost use Rattle.sea_plain.specs.Refusal.{Refuses};
+
+use crate::{Op, Ops};
+use std::marker::Model;
+use thiserror::Error;
+
+/// A request: 1 to 16 operations within their limits, which contracts see as the list of them.
+#[derive(Debug, Drop)]
+pub struct Request {
+    ops: Ops,
+}
+
+/// Why operations make no request. Operations count from 1.
+#[derive(Clone, Copy, Debug, PartialEq, Eq, Error)]
+pub enum RequestFault {
+    /// There is no operation.
+    #[error("no operation")]
+    Empty,
+    /// There are more than 16 operations.
+    #[error("too many operations")]
+    TooManyOps,
+    /// This operation is the first whose range is beyond the limits.
+    #[error("bad range in operation {op}")]
+    BadRange {
+        /// The number of the operation.
+        op: u32,
+    },
+    /// More than 64 blocks are written.
+    #[error("too many blocks")]
+    TooManyBlocks,
+    /// The changes of keys weigh more than 32.
+    #[error("too many keys")]
+    TooManyKeys,
+}
+
+impl Model for Request {
+    ghost use Rattle.std.specs.Prelude.{List};
+    ghost use Rattle.sea_plain.specs.declared.op.Op.{Op};
+    ghost use Rattle.sea_plain.specs.Request.{IsRequest};
+
+    ghost Value = { List Op };
+
+    ghost view = { λ r. r.ops };
+
+    ghost invariant = { λ r. IsRequest r.ops };
+}
+
+impl Request {
+    /// The request of these operations.
+    pub fn new(ops: Ops) -> Result<Request, RequestFault>
+        ensures ok { IfOk result (λ request. (request ≡ ops) × IsRequest request) }
+        ensures refused { IfErr result (Refuses ops) }
+    {
+        check(ops.items())?;
+        Ok(Request { ops })
+    }
+
+    /// The operations, in order.
+    pub fn ops(&self) -> &[Op]
+        ensures ops { result.now ≡ self.now }
+        ensures request { IsRequest self.now }
+    {
+        self.ops.items()
+    }
+}
+
+fn check(ops: &[Op]) -> Result<(), RequestFault>
+    ensures ok { OnOk result (IsRequest ops.now) }
+    ensures refused { IfErr result (Refuses ops.now) }
+{
+    if ops.is_empty() {
+        return Err(RequestFault::Empty);
+    }
+    if ops.len() > 16 {
+        return Err(RequestFault::TooManyOps);
+    }
+    let mut blocks = 0;
+    let mut keys = 0;
+    for (index, op) in ops.iter().enumerate() {
+        if !op.is_within_limits() {
+            return Err(RequestFault::BadRange {
+                op: index as u32 + 1,
+            });
+        }
+        blocks += op.data_blocks();
+        keys += op.key_weight();
+    }
+    if blocks > 64 {
+        return Err(RequestFault::TooManyBlocks);
+    }
+    if keys > 32 {
+        return Err(RequestFault::TooManyKeys);
+    }
+    Ok(())
+}
