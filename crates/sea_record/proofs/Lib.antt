@@ -1,0 +1,12 @@
+pub mod AddressOrders
+pub mod Encoding
+pub mod EntryBytes
+pub mod EntryLists
+pub mod Headers
+pub mod MetadataLengths
+pub mod Metadatas
+pub mod Payloads
+pub mod ReadRecords
+pub mod RecordRules
+pub mod Records
+pub mod Sums

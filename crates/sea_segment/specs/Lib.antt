@@ -1,0 +1,5 @@
+pub mod Header
+pub mod Seal
+pub mod State
+pub mod Superblock
+pub mod Table
