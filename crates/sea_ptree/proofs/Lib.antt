@@ -1,0 +1,14 @@
+pub mod Blame
+pub mod Checks
+pub mod EntryBytes
+pub mod Fronts
+pub mod Guiding
+pub mod Items
+pub mod Lookups
+pub mod Printing
+pub mod Reaching
+pub mod Rising
+pub mod Roots
+pub mod Searches
+pub mod Steps
+pub mod Walks
