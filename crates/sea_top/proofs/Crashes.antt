@@ -10,8 +10,8 @@ use Rattle.sea_plain.specs.declared.reply.Reply.{Reply}
 use Rattle.sea_plain.specs.declared.reply.Reply.TheVariants.{Done, Full}
 use Rattle.sea_plain.specs.Answer.{answer}
 use Rattle.sea_plain.specs.Objects.{ObjectMap}
-use Rattle.sea_script.specs.declared.plan.Asked.{Asked}
-use Rattle.sea_script.specs.declared.history.Entry.{Entry}
+use Rattle.sea_plain_script.specs.declared.plan.Asked.{Asked}
+use Rattle.sea_plain_script.specs.declared.history.Entry.{Entry}
 use Rattle.sea_top.specs.declared.record.Piece.{Piece}
 use Rattle.sea_top.specs.declared.record.PlainRecord.{PlainRecord}
 use Rattle.sea_top.specs.Crash.{IsClear, IsClearBehind, Crashes, IsLog, SameFront, OpensToPrefix, answered_by, log_of, log_pieces, record_of}

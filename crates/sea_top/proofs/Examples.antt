@@ -9,10 +9,10 @@ use Rattle.sea_plain.specs.declared.reply.Reply.TheVariants.{Done, Full}
 use Rattle.sea_plain.specs.Objects.{ObjectMap, ObjectValue}
 use Rattle.sea_plain.specs.Answer.{read_item}
 use Rattle.std.specs.FinMap as map
-use Rattle.sea_script.specs.declared.plan.Asked.{Asked}
-use Rattle.sea_script.specs.declared.history.Entry.{Entry}
-use Rattle.sea_script.specs.declared.script.ScriptWhy.TheVariants.{NotBuilt}
-use Rattle.sea_script.specs.Render.{entry_line, end_line, reply_text, items_text, item_text}
+use Rattle.sea_plain_script.specs.declared.plan.Asked.{Asked}
+use Rattle.sea_plain_script.specs.declared.history.Entry.{Entry}
+use Rattle.sea_plain_script.specs.declared.script.ScriptWhy.TheVariants.{NotBuilt}
+use Rattle.sea_plain_script.specs.Render.{entry_line, end_line, reply_text, items_text, item_text}
 use Rattle.sea_top.specs.declared.refusal.Refusal.TheVariants.{Usage, Script, DeviceFault, NoMemory, ReadFault}
 use Rattle.sea_top.specs.Causes.{IsSteps}
 use Rattle.sea_top.specs.Crash.{IsClearBehind, log_of, log_pieces}

@@ -2,7 +2,7 @@
 use Rattle.std.proofs.Common.{◌≡◌, ◌⊎◌, ℕ, List, [], refl, sym, ◌∙◌, arith, inl, inr}
 use Rattle.std.specs.Prelude.{Option, Some, None, MatchOption}
 use Rattle.std.specs.FinMap as map
-use Rattle.sea_script.specs.declared.plan.Asked.{Asked}
+use Rattle.sea_plain_script.specs.declared.plan.Asked.{Asked}
 use Rattle.sea_top.specs.declared.refusal.Refusal.{Refusal}
 use Rattle.sea_top.specs.declared.refusal.Refusal.TheVariants.{Usage, Script, DeviceFault, NoMemory, ReadFault}
 use Rattle.sea_top.specs.Crash.{IsUnwritten}
@@ -10,7 +10,7 @@ use Rattle.sea_top.specs.Headline.{Comes, Headline, IsOver, IsRefusedFor, Prints
 use Rattle.sea_top.specs.History.{none}
 use Rattle.sea_top.specs.Planning.{IsNoPlan}
 use Rattle.sea_top.specs.Refusal.{status_of, ending_line}
-use Rattle.sea_script.specs.Script.{IsScript}
+use Rattle.sea_plain_script.specs.Script.{IsScript}
 use Rattle.sea_top.specs.Trail.{objects_of}
 
 -- a refusal is no success

@@ -8,8 +8,8 @@ use Rattle.std.proofs.lemmas.List.{map-append, length-map}
 use Rattle.sea_plain.specs.declared.op.Op.{Op}
 use Rattle.sea_plain.specs.declared.reply.Reply.{Reply}
 use Rattle.sea_plain.specs.Objects.{ObjectMap}
-use Rattle.sea_script.specs.declared.plan.Asked.{Asked}
-use Rattle.sea_script.specs.declared.history.Entry.{Entry}
+use Rattle.sea_plain_script.specs.declared.plan.Asked.{Asked}
+use Rattle.sea_plain_script.specs.declared.history.Entry.{Entry}
 use Rattle.sea_top.specs.History.{requests_of, numbers_of, IsReply, after_reply, Legal, Serves, ServesFully}
 use Rattle.sea_top.specs.History.{none, more}
 use Rattle.sea_top.specs.Pieces.{need_of}

@@ -3,11 +3,11 @@ use Rattle.std.proofs.Common.{◌≡◌, ◌⊎◌, ℕ, ◌≤◌, ◌<◌, Lis
 use Rattle.std.specs.Prelude.{Option, Some, None, IfSome}
 use Rattle.std.proofs.lemmas.List.{append-nil}
 use Rattle.std.proofs.lemmas.Bool.{cases_lt}
-use Rattle.sea_script.specs.declared.plan.Asked.{Asked}
+use Rattle.sea_plain_script.specs.declared.plan.Asked.{Asked}
 use Rattle.sea_top.specs.Causes.{IsAnyScript}
 use Rattle.sea_top.specs.Input.{IsReadOut}
 use Rattle.sea_top.specs.Planning.{IsPlanOf}
-use Rattle.sea_script.specs.Script.{Ask, IsScript, IsRefusedAt}
+use Rattle.sea_plain_script.specs.Script.{Ask, IsScript, IsRefusedAt}
 use Rattle.sea_top.specs.Serving.{AsksFirst}
 
 -- each line asks for client 1

@@ -3,8 +3,8 @@ use Rattle.std.proofs.Common.{◌≡◌, ℕ, ◌+◌, ◌-◌, ◌*◌, ◌≤�
 use Rattle.std.specs.Prelude.{Option, Some, None, IfNone, IsSome, Result, Ok, Err, IsOk, OnOk}
 use Rattle.sea_base.specs.declared.memory.NoMemory.{NoMemory}
 use Rattle.sea_plain.specs.Objects.{ObjectMap}
-use Rattle.sea_script.specs.declared.plan.Asked.{Asked}
-use Rattle.sea_script.specs.declared.history.Entry.{Entry}
+use Rattle.sea_plain_script.specs.declared.plan.Asked.{Asked}
+use Rattle.sea_plain_script.specs.declared.history.Entry.{Entry}
 use Rattle.sea_top.specs.declared.record.PlainRecord.{PlainRecord}
 use Rattle.sea_top.specs.declared.refusal.Refusal.{Refusal}
 use Rattle.sea_top.specs.Crash.{IsLog, SameFront}

@@ -1,8 +1,8 @@
 -- Why each status comes, over any device, source and sink.
 use Rattle.std.specs.Prelude.{◌≡◌, ◌⊎◌, ℕ, List, [], ◌∷◌, codes, Option, IfSome}
 use Rattle.sea_device.specs.Device.{FaultsRose}
-use Rattle.sea_script.specs.declared.plan.Asked.{Asked}
-use Rattle.sea_script.specs.Script.{IsScript}
+use Rattle.sea_plain_script.specs.declared.plan.Asked.{Asked}
+use Rattle.sea_plain_script.specs.Script.{IsScript}
 
 -- the words are the one word `steps`
 abbrev pub IsSteps : List (List ℕ) → Type 0

@@ -2,17 +2,17 @@
 use Rattle.std.specs.Prelude.{◌≡◌, ◌⊎◌, ℕ, ◌-◌, ◌≤◌, List, [], ◌++◌, length, take, Option, Some, None, IfSome}
 use Rattle.std.specs.List.{flat_map}
 use Rattle.sea_plain.specs.Objects.{ObjectMap}
-use Rattle.sea_script.specs.declared.plan.Asked.{Asked}
-use Rattle.sea_script.specs.declared.history.Entry.{Entry}
+use Rattle.sea_plain_script.specs.declared.plan.Asked.{Asked}
+use Rattle.sea_plain_script.specs.declared.history.Entry.{Entry}
 use Rattle.sea_top.specs.declared.record.PlainRecord.{PlainRecord}
 use Rattle.sea_top.specs.declared.refusal.Refusal.{Refusal}
 use Rattle.sea_top.specs.declared.refusal.Refusal.TheVariants.{Usage, Script, DeviceFault, NoMemory, ReadFault}
 use Rattle.sea_top.specs.Crash.{Crashes, IsUnwritten}
 use Rattle.sea_top.specs.History.{Legal, Serves, ServesFully}
 use Rattle.sea_top.specs.Refusal.{status_at, ending_line}
-use Rattle.sea_script.specs.Render.{entry_line, end_line}
+use Rattle.sea_plain_script.specs.Render.{entry_line, end_line}
 use Rattle.sea_top.specs.Room.{KeepsRoom}
-use Rattle.sea_script.specs.Script.{IsScript, IsRefusedAt}
+use Rattle.sea_plain_script.specs.Script.{IsScript, IsRefusedAt}
 use Rattle.sea_top.specs.Trail.{IsTrail, Opens, chain_end, objects_of}
 
 -- The device's bytes open to these objects, and so does each image that a crash may leave.

@@ -6,8 +6,8 @@ use Rattle.sea_plain.specs.declared.reply.Reply.{Reply}
 use Rattle.sea_plain.specs.declared.reply.Reply.TheVariants.{Done, Full}
 use Rattle.sea_plain.specs.Objects.{ObjectMap}
 use Rattle.sea_plain.specs.Answer.{answer, after}
-use Rattle.sea_script.specs.declared.plan.Asked.{Asked}
-use Rattle.sea_script.specs.declared.history.Entry.{Entry}
+use Rattle.sea_plain_script.specs.declared.plan.Asked.{Asked}
+use Rattle.sea_plain_script.specs.declared.history.Entry.{Entry}
 
 -- the requests of a client, in order
 abbrev pub requests_of : ℕ → List Asked → List (List Op)

@@ -1,13 +1,13 @@
 -- Reading a plan.
 use Rattle.std.specs.Prelude.{◌≡◌, ℕ, ◌≤◌, List, [], length, Option, Some, IfSome}
 use Rattle.sea_device.specs.Device.{FaultsRose}
-use Rattle.sea_script.specs.declared.plan.Asked.{Asked}
+use Rattle.sea_plain_script.specs.declared.plan.Asked.{Asked}
 use Rattle.sea_top.specs.declared.refusal.Refusal.{Refusal}
 use Rattle.sea_top.specs.declared.refusal.Refusal.TheVariants as refusals
-use Rattle.sea_script.specs.declared.script.ScriptFault.{ScriptFault}
-use Rattle.sea_script.specs.declared.script.ScriptFault.TheVariants.{NoMemory, Refused}
+use Rattle.sea_plain_script.specs.declared.script.ScriptFault.{ScriptFault}
+use Rattle.sea_plain_script.specs.declared.script.ScriptFault.TheVariants.{NoMemory, Refused}
 use Rattle.sea_top.specs.Causes.{IsAnyScript}
-use Rattle.sea_script.specs.Script.{IsScript, IsRefusedAt}
+use Rattle.sea_plain_script.specs.Script.{IsScript, IsRefusedAt}
 use Rattle.sea_top.specs.Serving.{AsksFirst}
 
 abbrev pub refused_script : ScriptFault → Refusal

@@ -3,8 +3,8 @@ use Rattle.std.specs.Prelude.{ℕ, List, [], ◌∷◌, ◌++◌, codes, Option,
 use Rattle.std.specs.Fmt.{decimal}
 use Rattle.sea_top.specs.declared.refusal.Refusal.{Refusal}
 use Rattle.sea_top.specs.declared.refusal.Refusal.TheVariants.{Usage, Script, DeviceFault, NoMemory, ReadFault}
-use Rattle.sea_script.specs.declared.script.ScriptWhy.{ScriptWhy}
-use Rattle.sea_script.specs.declared.script.ScriptWhy.TheVariants.{NotBuilt}
+use Rattle.sea_plain_script.specs.declared.script.ScriptWhy.{ScriptWhy}
+use Rattle.sea_plain_script.specs.declared.script.ScriptWhy.TheVariants.{NotBuilt}
 
 abbrev pub status_of : Refusal → ℕ
 status_of Usage = 1

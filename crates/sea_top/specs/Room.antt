@@ -3,8 +3,8 @@ use Rattle.std.specs.Prelude.{◌≡◌, ℕ, ◌-◌, ◌<◌, ◌≤◌, List,
 use Rattle.sea_plain.specs.declared.op.Op.{Op}
 use Rattle.sea_plain.specs.declared.reply.Reply.{Reply}
 use Rattle.sea_plain.specs.declared.reply.Reply.TheVariants.{Done, Full}
-use Rattle.sea_script.specs.declared.plan.Asked.{Asked}
-use Rattle.sea_script.specs.declared.history.Entry.{Entry}
+use Rattle.sea_plain_script.specs.declared.plan.Asked.{Asked}
+use Rattle.sea_plain_script.specs.declared.history.Entry.{Entry}
 use Rattle.sea_top.specs.Pieces.{need_of}
 use Rattle.sea_top.specs.History.{requests_of}
 

@@ -2,8 +2,8 @@
 use Rattle.std.specs.Prelude.{◌≡◌, ℕ, ◌≤◌, List, ◌++◌, length, map}
 use Rattle.std.specs.List.{AllByRecursion, range_with_len}
 use Rattle.sea_plain.specs.Objects.{ObjectMap}
-use Rattle.sea_script.specs.declared.plan.Asked.{Asked}
-use Rattle.sea_script.specs.declared.history.Entry.{Entry}
+use Rattle.sea_plain_script.specs.declared.plan.Asked.{Asked}
+use Rattle.sea_plain_script.specs.declared.history.Entry.{Entry}
 use Rattle.sea_top.specs.declared.queue.Queue.{Queue}
 use Rattle.sea_top.specs.declared.record.PlainRecord.{PlainRecord}
 use Rattle.sea_top.specs.History.{Legal}

@@ -9,7 +9,7 @@ use crate::print::{print_refusal, print_run};
 use crate::run::serve;
 use crate::{Refusal, Status};
 use sea_device::{Device, Sink, Source};
-use sea_script::Plan;
+use sea_plain_script::Plan;
 use std::alloc::Global;
 
 /// Does the command that the words name, and answers its status and the device. The one command is

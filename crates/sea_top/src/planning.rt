@@ -5,7 +5,7 @@ ghost use Rattle.sea_top.specs.Planning.{IsNoPlan, IsPlanOf, refused_script};
 use crate::Refusal;
 use crate::input::read_all;
 use sea_device::Source;
-use sea_script::{Plan, ScriptFault, read_script};
+use sea_plain_script::{Plan, ScriptFault, read_script};
 use std::alloc::Global;
 
 impl From<ScriptFault> for Refusal {

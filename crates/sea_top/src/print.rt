@@ -4,14 +4,14 @@ ghost use Rattle.std.specs.List.{flat_map};
 ghost use Rattle.sea_top.specs.Headline.{run_text};
 ghost use Rattle.sea_top.specs.Refusal.{why_text, refusal_line, ending_line};
 ghost use Rattle.sea_top.specs.Printing.{Says};
-ghost use Rattle.sea_script.specs.Render.{entry_line, end_line};
+ghost use Rattle.sea_plain_script.specs.Render.{entry_line, end_line};
 
 use crate::input::put_all;
 use crate::run::Run;
 use crate::{Refusal, Status};
 use sea_base::NoMemory;
 use sea_device::Sink;
-use sea_script::{Entry, ScriptWhy, push_end, push_entry};
+use sea_plain_script::{Entry, ScriptWhy, push_end, push_entry};
 use std::alloc::Global;
 use std::fmt::Write;
 

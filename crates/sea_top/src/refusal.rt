@@ -2,7 +2,7 @@
 ghost use Rattle.std.specs.Prelude.{◌≡◌};
 ghost use Rattle.sea_top.specs.Refusal.{status_of};
 
-use sea_script::ScriptWhy;
+use sea_plain_script::ScriptWhy;
 
 /// The number that a command ends with.
 #[derive(Clone, Copy, Debug, PartialEq, Eq)]

@@ -15,7 +15,7 @@ use crate::serving::serve_all;
 use crate::{Refusal, Trail, TrailFault, read_trail};
 use sea_base::{Commit, NoMemory, Paddr, Sequence};
 use sea_device::Device;
-use sea_script::{Asked, Entry};
+use sea_plain_script::{Asked, Entry};
 use std::alloc::Global;
 
 /// What was served of a plan.

@@ -11,7 +11,7 @@ use crate::queue::Queue;
 use crate::reply::reply_to;
 use sea_base::{NoMemory, Sequence};
 use sea_plain::Objects;
-use sea_script::{Asked, Entry};
+use sea_plain_script::{Asked, Entry};
 use std::alloc::Global;
 
 /// Answers the requests of client 1 in order, enters each reply, and queues each record. After want of

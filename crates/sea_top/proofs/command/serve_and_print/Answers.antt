@@ -1,5 +1,5 @@
 use Rattle.std.proofs.Common.{List, ⊎_elim, inl, inr, subst}
-use Rattle.sea_script.specs.declared.plan.Asked.{Asked}
+use Rattle.sea_plain_script.specs.declared.plan.Asked.{Asked}
 use Rattle.sea_top.specs.Headline.{Serving, not_opened, served}
 use Rattle.sea_top.proofs.Headlines.{ends_run}
 use Rattle.sea_top.proofs.command.serve_and_print.Goals as goal

@@ -2,7 +2,7 @@ use Rattle.std.proofs.Common.{◌≡◌, ℕ, List, Option, Some, subst}
 use Rattle.std.specs.Prelude.{[]}
 use Rattle.sea_top.specs.Crash.{IsUnwritten}
 use Rattle.sea_top.specs.Planning.{IsNoPlan}
-use Rattle.sea_script.specs.Script.{IsScript}
+use Rattle.sea_plain_script.specs.Script.{IsScript}
 use Rattle.sea_top.proofs.Headlines.{headline_refused, headline_served, refused_for}
 use Rattle.sea_top.proofs.Readings.{IfSome-at}
 use Rattle.sea_top.proofs.command.steps.Goals as goal

@@ -1,5 +1,5 @@
 use Rattle.std.proofs.Common.{List, ℕ, subst}
-use Rattle.sea_script.specs.Script.{IsScript}
+use Rattle.sea_plain_script.specs.Script.{IsScript}
 use Rattle.sea_top.proofs.Plans.{plan_of}
 use Rattle.sea_top.proofs.planning.read_plan.Goals as goal
 

@@ -3,10 +3,10 @@ use Rattle.std.specs.Prelude.{string_bytes}
 use Rattle.std.specs.List.{flat_map}
 use Rattle.std.proofs.lemmas.Result.{IfOk-weaker}
 use Rattle.std.proofs.lemmas.List.{length-take}
-use Rattle.sea_script.specs.declared.history.Entry.{Entry}
+use Rattle.sea_plain_script.specs.declared.history.Entry.{Entry}
 use Rattle.sea_top.specs.Headline.{run_text}
 use Rattle.sea_top.specs.Refusal.{ending_line}
-use Rattle.sea_script.specs.Render.{entry_line, end_line}
+use Rattle.sea_plain_script.specs.Render.{entry_line, end_line}
 use Rattle.sea_top.proofs.print.print_run.Goals as goal
 
 pub returns : goal.returns

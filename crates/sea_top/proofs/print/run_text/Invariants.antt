@@ -1,7 +1,7 @@
 use Rattle.std.proofs.Common.{◌≡◌, take}
 use Rattle.std.specs.Prelude.{string_bytes}
 use Rattle.std.specs.List.{flat_map}
-use Rattle.sea_script.specs.Render.{entry_line}
+use Rattle.sea_plain_script.specs.Render.{entry_line}
 use Rattle.sea_top.proofs.print.run_text.Given as goal
 
 abbrev pub invariant-loop-entry : goal.invariant-loop-entry

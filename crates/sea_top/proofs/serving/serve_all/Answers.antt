@@ -4,7 +4,7 @@ use Rattle.std.proofs.lemmas.List.{append-nil}
 use Rattle.std.proofs.lemmas.Option.{slice_get_read}
 use Rattle.std.proofs.lemmas.Grind.{flat_map-append}
 use Rattle.sea_plain.specs.Objects.{ObjectMap}
-use Rattle.sea_script.specs.declared.history.Entry.{Entry}
+use Rattle.sea_plain_script.specs.declared.history.Entry.{Entry}
 use Rattle.sea_top.specs.declared.record.Piece.{Piece}
 use Rattle.sea_top.specs.declared.record.PlainRecord.{PlainRecord}
 use Rattle.sea_top.specs.Trail.{after_pieces, pieces_of}
