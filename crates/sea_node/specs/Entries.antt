@@ -39,7 +39,8 @@ abbrev pub size : List Entry → ℕ
 size entries = sum_by entry_size entries
 
 abbrev pub entry_bytes : Entry → List ℕ
-entry_bytes entry = big_endian 1 (length entry.0) ++ big_endian 2 (length entry.1) ++ entry.0 ++ entry.1
+entry_bytes entry =
+    big_endian 1 (length entry.0) ++ big_endian 2 (length entry.1) ++ entry.0 ++ entry.1
 
 abbrev pub entries_bytes : List Entry → List ℕ
 entries_bytes entries = flat_map entry_bytes entries

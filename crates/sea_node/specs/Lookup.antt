@@ -6,6 +6,7 @@ use Rattle.sea_node.specs.declared.lookup.Passed.{Passed}
 use Rattle.sea_node.specs.declared.reading.Span.{Span}
 use Rattle.sea_node.specs.Entries.{Entry, IsBelow, IsNotAbove, IsRising, size}
 use Rattle.sea_node.specs.Reading.{AreEntries, IsSpan, key_in, entry_in}
+use Rattle.sea_base.specs.declared.block.TheConstants.{BLOCK_BYTES}
 
 -- the key of the first of some entries, if there is one
 abbrev pub front_key : List Entry → Option (List ℕ)
@@ -15,14 +16,15 @@ front_key (entry ∷ entries) = Some entry.0
 -- the key of the last of some entries, if there is one
 abbrev pub EndsAt : List Entry → Option (List ℕ) → Type 0
 EndsAt entries None = entries ≡ []
-EndsAt entries (Some last) = (before : List Entry) × (value : List ℕ) × (entries ≡ before ++ (last, value) ∷ [])
+EndsAt entries (Some last) =
+    (before : List Entry) × (value : List ℕ) × (entries ≡ before ++ (last, value) ∷ [])
 
 -- each key of some entries is above this one
 abbrev pub AreAbove : List ℕ → List Entry → Type 0
 AreAbove key entries = AllByRecursion (λ e. IsBelow key e.0) entries
 
--- The last of some entries whose key is not above this one, if there is one, and the first key above it, if
--- there is one.
+-- The last of some entries whose key is not above this one, if there is one, and the first key
+-- above it, if there is one.
 abbrev pub Finds : List ℕ → List Entry → Option Entry → Option (List ℕ) → Type 0
 Finds key entries None next = AreAbove key entries × (next ≡ front_key entries)
 Finds key entries (Some entry) next =
@@ -53,14 +55,15 @@ IsSpanIf bytes (Some span) = IsSpan bytes span
 -- where entries stand that tell of a key
 pub record HasSpans (bytes : List ℕ) (passed : Passed) : Type 0 where
   pub front : 32 ≤ passed.end
-  pub within : passed.end ≤ 4096
+  pub within : passed.end ≤ BLOCK_BYTES
   pub first_is : IsSpanIf bytes passed.first
   pub last_is : IsSpanIf bytes passed.last
   pub found_is : IsSpanIf bytes passed.found
   pub next_is : IsSpanIf bytes passed.next
 
 -- what some entries of a node tell of a key
-pub record Passes (bytes : List ℕ) (key : List ℕ) (entries : List Entry) (passed : Passed) : Type 0 where
+pub record Passes (bytes : List ℕ) (key : List ℕ) (entries : List Entry)
+    (passed : Passed) : Type 0 where
   pub end_is : passed.end ≡ 32 + size entries
   pub first_is : keyed bytes passed.first ≡ front_key entries
   pub last_is : EndsAt entries (keyed bytes passed.last)

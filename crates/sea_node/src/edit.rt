@@ -7,7 +7,7 @@ ghost use Rattle.sea_node.specs.Node.{IsNode, node_bytes};
 
 use crate::Node;
 use crate::entry::{push_entry, size_of_entry};
-use crate::node::FRONT_BYTES;
+use crate::node::{FRONT_BYTES, ROOM_BYTES};
 use sea_base::{Data, Delta, Key, NoMemory};
 use std::alloc::Global;
 use std::cmp::Ordering;
@@ -25,17 +25,23 @@ struct Place {
 }
 
 impl Node {
-    /// The splice of the node's block that puts a value under a key, or with none removes the key. It
-    /// replaces whole entries, also where the value is equal.
+    /// The splice of the node's block that puts a value under a key, or with none removes the key.
+    /// It replaces whole entries, also where the value is equal.
     pub fn edit(&self, alloc: Global, key: &Key, value: Option<&Data>) -> Result<Delta, NoMemory>
         requires node { IsNode self.now.level self.now.entries }
-        requires edited { IsNode self.now.level (edited key.now (option_copied value) self.now.entries) }
-        ensures cut { IfOk result (λ delta. delta.cut ≡ 32 + size (entries_before key.now self.now.entries)) }
-        ensures gone { IfOk result (λ delta. delta.gone ≡ size (entries_at key.now self.now.entries)) }
-        ensures put { IfOk result (λ delta. delta.put ≡ entry_put key.now (option_copied value.entry)) }
+        requires edited { IsNode self.now.level
+            (edited key.now (option_copied value) self.now.entries) }
+        ensures cut { IfOk result (λ delta.
+            delta.cut ≡ FRONT_BYTES + size (entries_before key.now self.now.entries)) }
+        ensures gone { IfOk result
+            (λ delta. delta.gone ≡ size (entries_at key.now self.now.entries)) }
+        ensures put { IfOk result
+            (λ delta. delta.put ≡ entry_put key.now (option_copied value.entry)) }
         ensures fits { IfOk result (λ delta. IsSplice delta.cut delta.gone delta.put) }
-        ensures splice { IfOk result (λ delta. spliced delta.cut delta.gone delta.put (node_bytes self.now.level self.now.entries)
-            ≡ node_bytes self.now.level (edited key.now (option_copied value.entry) self.now.entries)) }
+        ensures splice { IfOk result (λ delta.
+            spliced delta.cut delta.gone delta.put (node_bytes self.now.level self.now.entries)
+            ≡ node_bytes self.now.level
+            (edited key.now (option_copied value.entry) self.now.entries)) }
     {
         let place = self.place(key);
         Ok(Delta {
@@ -47,7 +53,7 @@ impl Node {
 
     fn place(&self, key: &Key) -> Place
         requires rising { IsRising self.now.entries }
-        requires fits { size self.now.entries ≤ 4064 }
+        requires fits { size self.now.entries ≤ ROOM_BYTES }
         ensures before { result.before ≡ size (entries_before key.now self.now.entries) }
         ensures size { result.size ≡ size (entries_at key.now self.now.entries) }
     {

@@ -9,4 +9,5 @@ mod order;
 mod reading;
 
 pub use lookup::Lookup;
-pub use node::Node;
+pub use node::{Node, ROOM_BYTES};
+pub use reading::{ENTRY_BYTES, VALUE_BYTES};

@@ -45,8 +45,11 @@ impl Node {
     /// What the node that a block spells tells of a key, if it spells one.
     pub fn look_up(block: &Block, key: &Key) -> Result<Option<Lookup>, NoMemory>
         ensures some { IfOk result (λ found. IfSome found (λ lookup.
-            (entries : List Entry) × Spells block.now lookup.level entries × Tells key.now entries lookup)) }
-        ensures none { IfOk result (λ found. IfNone found ((level : ℕ) (entries : List Entry) → Spells block.now level entries → ⊥)) }
+            (entries : List Entry) × Spells block.now lookup.level entries
+            × Tells key.now entries lookup)) }
+        ensures none { IfOk result (λ found.
+            IfNone found
+            ((level : ℕ) (entries : List Entry) → Spells block.now level entries → ⊥)) }
     {
         let Some(level) = read_level(block) else {
             return Ok(None);
@@ -75,12 +78,14 @@ impl Passed {
 
     // What all entries of a block tell, if they may stand in a node of a level.
     fn through(bytes: &[u8], level: u32, key: &[u8]) -> Option<Passed>
-        requires block { length bytes.now ≡ 4096 }
+        requires block { length bytes.now ≡ BLOCK_BYTES }
         requires level { BeginsAtLevel bytes.now level }
         ensures some { IfSome result (λ passed. (entries : List Entry)
             × IsRead bytes.now level entries × Passes bytes.now key.now entries passed) }
         ensures spans { IfSome result (HasSpans bytes.now) }
-        ensures none { IfNone result ((level : ℕ) (entries : List Entry) → Spells bytes.now level entries → ⊥) }
+        ensures none { IfNone result ((level : ℕ) (entries : List Entry)
+            → Spells bytes.now level entries
+            → ⊥) }
     {
         let mut passed = Passed::none();
         'entries: while passed.end < BLOCK_BYTES && bytes[passed.end] != 0 {
@@ -100,7 +105,7 @@ impl Passed {
 
     // Whether an entry may stand behind those so far, in a node of a level.
     fn admits(&self, bytes: &[u8], level: u32, entry: Span) -> bool
-        requires block { length bytes.now ≡ 4096 }
+        requires block { length bytes.now ≡ BLOCK_BYTES }
         requires entry { IsSpan bytes.now entry }
         requires spans { HasSpans bytes.now self.now }
         ensures { IsTrue result ↔ (IsBehind (keyed bytes.now self.now.last) (key_in bytes.now entry)
@@ -120,11 +125,12 @@ impl Passed {
 
     // Takes the entry behind those so far.
     fn take(&mut self, bytes: &[u8], entry: Span, key: &[u8])
-        requires block { length bytes.now ≡ 4096 }
+        requires block { length bytes.now ≡ BLOCK_BYTES }
         requires entry { SpansAt bytes.now self.old.end entry }
         requires spans { HasSpans bytes.now self.old }
         ensures takes { (entries : List Entry) → IsRising (entries ++ entry_in bytes.now entry ∷ [])
-            → Passes bytes.now key.now entries self.old → Passes bytes.now key.now (entries ++ entry_in bytes.now entry ∷ []) self.new }
+            → Passes bytes.now key.now entries self.old
+            → Passes bytes.now key.now (entries ++ entry_in bytes.now entry ∷ []) self.new }
         ensures spans { HasSpans bytes.now self.new }
         ensures end { self.new.end ≡ entry.end }
     {
@@ -144,7 +150,8 @@ impl Passed {
     // What a node of a level with these entries tells, if they are enough for one.
     fn told(self, block: &Block, level: u32) -> Result<Option<Lookup>, NoMemory>
         requires { HasSpans block.now self }
-        ensures some { IfOk result (λ found. IfSome found (λ lookup. (key : List ℕ) (entries : List Entry)
+        ensures some { IfOk result (λ found.
+            IfSome found (λ lookup. (key : List ℕ) (entries : List Entry)
             → IsRising entries → Passes block.now key entries self
             → (lookup.level ≡ level) × IsEnough level entries × Tells key entries lookup)) }
         ensures none { IfOk result (λ found. IfNone found ((key : List ℕ) (entries : List Entry)

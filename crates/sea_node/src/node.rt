@@ -14,6 +14,9 @@ pub const MAGIC: &[u8; 4] = b"SNOD";
 /// How many bytes stand before the entries.
 pub const FRONT_BYTES: usize = 32;
 
+/// How many bytes of entries a node has room for.
+pub const ROOM_BYTES: usize = 4064;
+
 /// A node of a logical tree: its entries rise strictly by the bytes of their keys.
 #[derive(Debug, Drop)]
 pub struct Node {
@@ -26,8 +29,11 @@ pub struct Node {
 impl Node {
     /// The node that a block spells, if it spells one.
     pub fn parse(alloc: Global, block: &Block) -> Result<Option<Node>, NoMemory>
-        ensures some { IfOk result (λ found. IfSome found (λ node. Spells block.now node.level node.entries)) }
-        ensures none { IfOk result (λ found. IfNone found ((level : ℕ) (entries : List Entry) → Spells block.now level entries → ⊥)) }
+        ensures some { IfOk result (λ found.
+            IfSome found (λ node. Spells block.now node.level node.entries)) }
+        ensures none { IfOk result (λ found.
+            IfNone found
+            ((level : ℕ) (entries : List Entry) → Spells block.now level entries → ⊥)) }
     {
         let Some(level) = read_level(block) else {
             return Ok(None);

@@ -6,7 +6,8 @@ use sea_base::u64_at;
 
 const WORD_BYTES: usize = 8;
 
-/// Whether a key comes before another: by their bytes as unsigned numbers, and a proper prefix first.
+/// Whether a key comes before another: by their bytes as unsigned numbers, and a proper prefix
+/// first.
 pub fn comes_before(first: &[u8], second: &[u8]) -> bool
     ensures { IsTrue result ↔ IsBelow first.now second.now }
 {

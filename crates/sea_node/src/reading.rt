@@ -5,7 +5,7 @@ ghost use Rattle.sea_node.specs.Entries.{IsRising, size};
 ghost use Rattle.sea_node.specs.Node.{IsNode};
 ghost use Rattle.sea_node.specs.Reading.{IsEntry, BeginsAtLevel, BeginsAtNoLevel, BeginsWithNoEntry, StandsAt, AreEntries, AreNoEntries, IsSpan, SpansAt, key_in, entry_in};
 
-use crate::node::{FRONT_BYTES, MAGIC};
+use crate::node::{FRONT_BYTES, MAGIC, ROOM_BYTES};
 use crate::order::comes_before;
 use sea_base::{BLOCK_BYTES, Block, Data, Key, NoMemory, Pairs, is_name, is_zero, u16_at};
 use std::alloc::Global;
@@ -14,14 +14,18 @@ const LEVEL_AT: usize = 4;
 
 const LEVELS: u8 = 8;
 
-const VALUE_BYTES: usize = 1024;
+/// How many bytes a value has at most.
+pub const VALUE_BYTES: usize = 1024;
+
+/// How many bytes an entry takes at most: the lengths of its key and its value, 64 and 1,024 bytes.
+pub const ENTRY_BYTES: usize = 1091;
 
 /// How many bytes the address of a child has.
 pub const ADDRESS_BYTES: usize = 8;
 
 /// The level of the node that the block begins as.
 pub fn read_level(block: &Block) -> Option<u32>
-    ensures length { length block.now ≡ 4096 }
+    ensures length { length block.now ≡ BLOCK_BYTES }
     ensures level { MatchOption result (BeginsAtNoLevel block.now) (BeginsAtLevel block.now) }
 {
     let bytes = block.bytes();
@@ -37,7 +41,9 @@ pub fn read_level(block: &Block) -> Option<u32>
 
 /// The entries that the block has behind its first bytes, with zeros behind them.
 pub fn read_entries(alloc: Global, block: &Block) -> Result<Option<Pairs>, NoMemory>
-    ensures { IfOk result (λ found. MatchOption found (AreNoEntries (drop 32 block.now)) (AreEntries (drop 32 block.now))) }
+    ensures { IfOk result (λ found.
+        MatchOption found (AreNoEntries (drop FRONT_BYTES block.now))
+        (AreEntries (drop FRONT_BYTES block.now))) }
 {
     let bytes = block.bytes();
     let mut entries = Pairs::new(alloc);
@@ -55,7 +61,8 @@ pub fn read_entries(alloc: Global, block: &Block) -> Result<Option<Pairs>, NoMem
     Ok(Some(entries))
 }
 
-/// Where the parts of an entry stand in a block: the key up to the value, and the value up to the end.
+/// Where the parts of an entry stand in a block: the key up to the value, and the value up to the
+/// end.
 #[derive(Clone, Copy, Debug)]
 pub struct Span {
     /// Where the key begins.
@@ -68,8 +75,8 @@ pub struct Span {
 
 /// Where the parts of the entry that stands at a place are.
 pub fn span_at(bytes: &[u8], at: usize) -> Option<Span>
-    requires block { length bytes.now ≡ 4096 }
-    requires within { at < 4096 }
+    requires block { length bytes.now ≡ BLOCK_BYTES }
+    requires within { at < BLOCK_BYTES }
     ensures { MatchOption result (BeginsWithNoEntry (drop at bytes.now)) (SpansAt bytes.now at) }
 {
     let key_at = at + 3;
@@ -91,8 +98,10 @@ pub fn span_at(bytes: &[u8], at: usize) -> Option<Span>
 
 /// The entry that stands at a place, and where it ends.
 pub fn read_entry(block: &Block, at: usize) -> Result<Option<((Key, Data), usize)>, NoMemory>
-    requires { at < 4096 }
-    ensures { IfOk result (λ found. MatchOption found (BeginsWithNoEntry (drop at block.now)) (λ x. StandsAt block.now at x.0 x.1)) }
+    requires { at < BLOCK_BYTES }
+    ensures { IfOk result (λ found.
+        MatchOption found (BeginsWithNoEntry (drop at block.now))
+        (λ x. StandsAt block.now at x.0 x.1)) }
 {
     let Some(span) = span_at(block.bytes(), at) else {
         return Ok(None);
@@ -124,7 +133,7 @@ pub fn share_key(block: &Block, span: Span) -> Result<Key, NoMemory>
 pub fn is_node(level: u32, entries: &[(Key, Data)]) -> bool
     requires level { level ≤ 7 }
     requires entries { AllByRecursion IsEntry entries.now }
-    requires fits { size entries.now ≤ 4064 }
+    requires fits { size entries.now ≤ ROOM_BYTES }
     ensures { IsTrue result ↔ IsNode level entries.now }
 {
     !entries.is_empty() && (level == 0 || are_children(entries)) && is_rising(entries)

@@ -9,8 +9,8 @@ use Rattle.sea_base.specs.Space.{Store, Seen, IsKnown, IsSound, Agrees, laid}
 use Rattle.sea_base.proofs.Spaces.{only_read-refl}
 use Rattle.sea_node.specs.Entries.{Entry, Values, size, edited}
 use Rattle.sea_tree.specs.declared.edit.Edit.{Edit}
-use Rattle.sea_tree.specs.declared.way.Step.{Step}
-use Rattle.sea_tree.specs.declared.way.Way.{Way}
+use Rattle.sea_tree.specs.declared.path.Step.{Step}
+use Rattle.sea_tree.specs.declared.path.Path.{Path}
 use Rattle.sea_tree.specs.Tree.{Bounds, NodeAt, IsNodeOf, root_bounds, IsAddress, child_bounds}
 use Rattle.sea_tree.specs.Content.{HasContent}
 use Rattle.sea_tree.specs.Breaks.{HasNode}
@@ -18,30 +18,30 @@ use Rattle.sea_tree.specs.Calls.{Meets}
 use Rattle.sea_tree.specs.Does.{Change, overlaid, Does}
 use Rattle.sea_tree.specs.Subtrees.{Holds}
 use Rattle.sea_tree.specs.Mending.{Aim, IsGiven, after_edit, IsNearPlace, Mending, Replaced}
-use Rattle.sea_tree.specs.Changing.{Changed, changed_content, IsPlanned, TouchesOwn, RootSettled, RootSinks}
+use Rattle.sea_tree.specs.Changing.{Changed, changed_content, IsPlanned, TouchesOwn, RootRebalanced, RootCollapses}
 use Rattle.sea_tree.specs.Place.{meant}
-use Rattle.sea_tree.specs.Settled.{IsNearChild, Settled}
-use Rattle.sea_tree.specs.Way.{StepsDown, ComesDown, AreKnown, IsKnownWay}
+use Rattle.sea_tree.specs.Rebalanced.{IsNearChild, Rebalanced}
+use Rattle.sea_tree.specs.Path.{StepsDown, ComesDown, AreKnown, IsKnownPath}
 use Rattle.sea_tree.proofs.Doing.{Does-then, Does-laid, Does-agrees, overlaid-append, overlaid-same}
 use Rattle.sea_tree.proofs.Holding.{one_node, node_held, same_address}
 use Rattle.sea_tree.proofs.Contents.{content_held}
-use Rattle.sea_tree.proofs.Ways.{laid_same, Descends-laid, StepsDown-same, first_node, step_lies}
+use Rattle.sea_tree.proofs.Paths.{laid_same, Descends-laid, StepsDown-same, first_node, step_lies}
 use Rattle.sea_tree.proofs.Mending.{mending_begun, fits_replaced, replaced_changed}
 use Rattle.sea_tree.proofs.MendSplit.{IsFree, given_more, mending_child_filled}
 use Rattle.sea_tree.proofs.MendSides.{puts_one}
-use Rattle.sea_tree.proofs.MendRoot.{root_split_puts, root_split, root_sunk_puts, root_sunk, root_emptied}
-use Rattle.sea_tree.proofs.MendSettled.{IsMended, settled_mended}
-use Rattle.sea_tree.proofs.MendWay.{last_step, way_held, way_replaced}
+use Rattle.sea_tree.proofs.MendRoot.{root_split_puts, root_split, root_collapsed_puts, root_collapsed, root_emptied}
+use Rattle.sea_tree.proofs.MendRebalanced.{IsMended, rebalanced_mended}
+use Rattle.sea_tree.proofs.MendPath.{last_step, path_held, path_replaced}
 use Rattle.sea_tree.specs.Reads.{IsChildOf}
 use Rattle.sea_tree.proofs.Lone.{lone_edit}
-use Rattle.sea_tree.proofs.Touched.{among_append, child_in, settled_touches, root_touches, at_top, child_of_tree}
+use Rattle.sea_tree.proofs.Touched.{among_append, child_in, rebalanced_touches, root_touches, at_top, child_of_tree}
 use Rattle.sea_tree.proofs.NearUp.{near_up, same_split}
 
 -- what is aimed at, with what was given from one state to another
 abbrev pub aim_of : List ℕ → Option (List ℕ) → Seen → Seen → Aim
 aim_of key value begun now = record { key = key; value = value; first = begun.next; last = now.next }
 
--- How far a change has come: below a node on the way it is planned, and the node isn't yet.
+-- How far a change has come: below a node on the path it is planned, and the node isn't yet.
 pub record Climbs (begun now : Seen) (root : ℕ) (key : List ℕ) (value : Option (List ℕ)) (steps : List Step) (level at : ℕ) (entries after : List Entry) (changes : List Change) : Type 0 where
   pub bounds : Bounds
   pub down : ComesDown begun root key steps level at bounds entries
@@ -53,13 +53,13 @@ pub record Climbs (begun now : Seen) (root : ℕ) (key : List ℕ) (value : Opti
   pub mending : (store : Store) (before : Values) → Meets store root begun now before → Mending (laid begun store) (overlaid changes (laid begun store)) level at bounds entries after (aim_of key value begun now)
 
 -- it begins at the leaf
-pub climbs_begun : (begun : Seen) (root : ℕ) (key : List ℕ) (value : Option (List ℕ)) (way : Way) → IsSound begun → IsName key → IfSome value (λ v. length v ≤ 1024) → IsKnownWay begun root key way → Does [] begun begun
-    → IsNearPlace 0 (meant way.bounds) (edited key value way.leaf.entries)
-    → Climbs begun begun root key value way.steps.items way.leaf.level way.at.0 way.leaf.entries (edited key value way.leaf.entries) []
-climbs_begun begun root key value way sound name short known nothing near =
-    let leaf : 0 ≡ way.leaf.level = sym known.leaf_level in
-    subst (λ (l : ℕ). Climbs begun begun root key value way.steps.items l way.at.0 way.leaf.entries (edited key value way.leaf.entries) []) leaf (record {
-      bounds = meant way.bounds;
+pub climbs_begun : (begun : Seen) (root : ℕ) (key : List ℕ) (value : Option (List ℕ)) (path : Path) → IsSound begun → IsName key → IfSome value (λ v. length v ≤ 1024) → IsKnownPath begun root key path → Does [] begun begun
+    → IsNearPlace 0 (meant path.bounds) (edited key value path.leaf.entries)
+    → Climbs begun begun root key value path.steps.items path.leaf.level path.at.0 path.leaf.entries (edited key value path.leaf.entries) []
+climbs_begun begun root key value path sound name short known nothing near =
+    let leaf : 0 ≡ path.leaf.level = sym known.leaf_level in
+    subst (λ (l : ℕ). Climbs begun begun root key value path.steps.items l path.at.0 path.leaf.entries (edited key value path.leaf.entries) []) leaf (record {
+      bounds = meant path.bounds;
       down = known.down;
       near = near;
       grown = λ some. absurd (omega (arith, some));
@@ -67,8 +67,8 @@ climbs_begun begun root key value way sound name short known nothing near =
       reads = nothing;
       touched = λ store q agrees e. absurd (true≢false (sym e));
       mending = λ store before meets.
-          let here = (Descends-laid begun begun store root key way.steps.items 0 way.at.0 (meant way.bounds) way.leaf.entries (only_read-refl begun) sound meets.agrees known.down).1 in
-          mending_begun (laid begun store) way.at.0 (meant way.bounds) way.leaf.entries (aim_of key value begun begun) here name short known.down.leads.0 known.down.leads.1 (omega arith);
+          let here = (Descends-laid begun begun store root key path.steps.items 0 path.at.0 (meant path.bounds) path.leaf.entries (only_read-refl begun) sound meets.agrees known.down).1 in
+          mending_begun (laid begun store) path.at.0 (meant path.bounds) path.leaf.entries (aim_of key value begun begun) here name short known.down.leads.0 known.down.leads.1 (omega arith);
     })
 
 -- the step above, on what was seen
@@ -86,7 +86,7 @@ step_above begun root key steps step level at bounds entries down =
       down = last.down;
       comes = record {
         top = down.top;
-        descent = last.way;
+        descent = last.path;
         node = last.down.node;
         steps_known = known.0;
         known = known.1;
@@ -117,12 +117,12 @@ root_held was level root content has node =
     let levels = one_node was root held.0 level there.entries node.0 there.node.0 node.1.0 in
     (held.1, subst (λ (l : ℕ). Holds was l root root_bounds (map.entries content) held.1) levels.0 held.2)
 
--- Below a node on the way, on one store: what settling the node in hand makes of it.
-settled_above : (begun now new : Seen) (root : ℕ) (key : List ℕ) (value : Option (List ℕ)) (steps : List Step) (step : Step) (level at : ℕ) (entries after : List Entry) (changes added : List Change) (left : Option Edit)
-    → IsSound begun → now.next < 2 ^ 62 + 2 ^ 47 → (climbs : Climbs begun now root key value (steps ++ step ∷ []) level at entries after changes) → Settled level at after step now new added left → Does [] now new
+-- Below a node on the path, on one store: what rebalancing the node in hand makes of it.
+rebalanced_above : (begun now new : Seen) (root : ℕ) (key : List ℕ) (value : Option (List ℕ)) (steps : List Step) (step : Step) (level at : ℕ) (entries after : List Entry) (changes added : List Change) (left : Option Edit)
+    → IsSound begun → now.next < 2 ^ 62 + 2 ^ 47 → (climbs : Climbs begun now root key value (steps ++ step ∷ []) level at entries after changes) → Rebalanced level at after step now new added left → Does [] now new
     → (above : Above begun root key steps step level at climbs.bounds) → (store : Store) (before : Values) → Meets store root begun new before
     → IsMended (laid begun store) (overlaid (added ++ changes) (laid begun store)) (suc level) step.at.0 above.asked step.node.entries (aim_of key value begun new) left
-settled_above begun now new root key value steps step level at entries after changes added left sound small climbs settled goes above store before meets =
+rebalanced_above begun now new root key value steps step level at entries after changes added left sound small climbs rebalanced goes above store before meets =
     let was : Store = laid begun store in
     let is : Store = overlaid changes was in
     let later : now.next ≤ new.next = goes.next in
@@ -133,16 +133,16 @@ settled_above begun now new root key value steps step level at entries after cha
     let down : StepsDown was level step.at.0 above.asked step key at climbs.bounds = StepsDown-same begun begun.view was same level step.at.0 above.asked step key at climbs.bounds above.comes.known above.down in
     let there = Descends-laid begun begun store root key steps (suc level) step.at.0 above.asked step.node.entries (only_read-refl begun) sound agrees_begun above.comes in
     let held = root_held was above.comes.top root before meets.content (first_node was above.comes.top root root_bounds steps key (suc level) step.at.0 above.asked step.node.entries there.0 there.1) in
-    let here = way_held was above.comes.top root root_bounds (map.entries before) held.0 steps key (suc level) step.at.0 above.asked held.1 there.0 in
-    settled_mended was is level step.at.0 above.asked here.0 here.1 step key at climbs.bounds entries after (aim_of key value begun now) here.2 down (climbs.mending store before meets_now)
+    let here = path_held was above.comes.top root root_bounds (map.entries before) held.0 steps key (suc level) step.at.0 above.asked held.1 there.0 in
+    rebalanced_mended was is level step.at.0 above.asked here.0 here.1 step key at climbs.bounds entries after (aim_of key value begun now) here.2 down (climbs.mending store before meets_now)
     now new store meets.agrees (λ q. sym (Does-laid [] climbs.reads store q)) climbs.reads.next refl (omega (arith, small)) (λ q given. meets.fresh q given.0 given.1)
-    (overlaid (added ++ changes) was) added left settled (λ q. overlaid-append added changes was q)
+    (overlaid (added ++ changes) was) added left rebalanced (λ q. overlaid-append added changes was q)
 
 -- what is written there too is the tree's own
-pub settled_own : (begun now new : Seen) (root : ℕ) (key : List ℕ) (value : Option (List ℕ)) (steps : List Step) (step : Step) (level at : ℕ) (entries after : List Entry) (changes added : List Change) (left : Option Edit)
-    → IsSound begun → (climbs : Climbs begun now root key value (steps ++ step ∷ []) level at entries after changes) → Settled level at after step now new added left → Does [] now new
+pub rebalanced_own : (begun now new : Seen) (root : ℕ) (key : List ℕ) (value : Option (List ℕ)) (steps : List Step) (step : Step) (level at : ℕ) (entries after : List Entry) (changes added : List Change) (left : Option Edit)
+    → IsSound begun → (climbs : Climbs begun now root key value (steps ++ step ∷ []) level at entries after changes) → Rebalanced level at after step now new added left → Does [] now new
     → TouchesOwn root begun new (added ++ changes)
-settled_own begun now new root key value steps step level at entries after changes added left sound climbs settled goes store q agrees e =
+rebalanced_own begun now new root key value steps step level at entries after changes added left sound climbs rebalanced goes store q agrees e =
     let agrees_now : Agrees store now = Does-agrees [] goes store agrees in
     let agrees_begun : Agrees store begun = Does-agrees [] climbs.reads store agrees_now in
     let above = step_above begun root key steps step level at climbs.bounds entries climbs.down in
@@ -150,7 +150,7 @@ settled_own begun now new root key value steps step level at entries after chang
     let first = first_node (laid begun store) above.comes.top root root_bounds steps key (suc level) step.at.0 above.asked step.node.entries there.0 there.1 in
     let own = child_in step.node.entries above.down.before above.down.entry above.down.after at above.down.split.split above.down.address in
     elim (among_append added changes q e) [
-      | inl here ↦ elim (settled_touches level at after step now new own q added left settled here) [
+      | inl here ↦ elim (rebalanced_touches level at after step now new own q added left rebalanced here) [
         | inl child ↦ inr (inl (child_of_tree (laid begun store) above.comes.top root steps key level step.at.0 above.asked step.node.entries q first there.0 there.1.0 child))
         | inr given ↦ inr (inr (omega (arith, climbs.reads.next, given.0), given.1))
       ]
@@ -163,11 +163,11 @@ settled_own begun now new root key value steps step level at entries after chang
 
 -- What is left to the parent is the same climb, one step up.
 pub climbs_up : (begun now new : Seen) (root : ℕ) (key : List ℕ) (value : Option (List ℕ)) (steps : List Step) (step : Step) (level at : ℕ) (entries after : List Entry) (changes added : List Change) (edit : Edit)
-    → IsSound begun → now.next < 2 ^ 62 + 2 ^ 47 → Climbs begun now root key value (steps ++ step ∷ []) level at entries after changes → Settled level at after step now new added (Some edit) → Does [] now new
+    → IsSound begun → now.next < 2 ^ 62 + 2 ^ 47 → Climbs begun now root key value (steps ++ step ∷ []) level at entries after changes → Rebalanced level at after step now new added (Some edit) → Does [] now new
     → Climbs begun new root key value steps (suc level) step.at.0 step.node.entries (after_edit edit step.node.entries) (added ++ changes)
-climbs_up begun now new root key value steps step level at entries after changes added edit sound small climbs settled goes =
+climbs_up begun now new root key value steps step level at entries after changes added edit sound small climbs rebalanced goes =
     let above = step_above begun root key steps step level at climbs.bounds entries climbs.down in
-    let grows = near_up begun.view level step.at.0 above.asked step key at climbs.bounds after now new added edit above.down climbs.near settled in
+    let grows = near_up begun.view level step.at.0 above.asked step key at climbs.bounds after now new added edit above.down climbs.near rebalanced in
     record {
       bounds = above.asked;
       down = above.comes;
@@ -175,26 +175,26 @@ climbs_up begun now new root key value steps step level at entries after changes
       grown = λ _. grows.grown;
       lone = λ e _ is. lone_edit level step.node.entries edit e above.down.node.0.spells.node is;
       reads = Does-then [] [] climbs.reads goes;
-      touched = settled_own begun now new root key value steps step level at entries after changes added (Some edit) sound climbs settled goes;
-      mending = settled_above begun now new root key value steps step level at entries after changes added (Some edit) sound small climbs settled goes above;
+      touched = rebalanced_own begun now new root key value steps step level at entries after changes added (Some edit) sound climbs rebalanced goes;
+      mending = rebalanced_above begun now new root key value steps step level at entries after changes added (Some edit) sound small climbs rebalanced goes above;
     }
 
 -- Where nothing is left, the change is planned.
 pub climbs_done : (begun now new : Seen) (root : ℕ) (key : List ℕ) (value : Option (List ℕ)) (steps : List Step) (step : Step) (level at : ℕ) (entries after : List Entry) (changes added : List Change)
-    → IsSound begun → now.next < 2 ^ 62 + 2 ^ 47 → Climbs begun now root key value (steps ++ step ∷ []) level at entries after changes → Settled level at after step now new added None → Does [] now new
+    → IsSound begun → now.next < 2 ^ 62 + 2 ^ 47 → Climbs begun now root key value (steps ++ step ∷ []) level at entries after changes → Rebalanced level at after step now new added None → Does [] now new
     → IsPlanned root key value begun new (added ++ changes)
-climbs_done begun now new root key value steps step level at entries after changes added sound small climbs settled goes store before meets =
+climbs_done begun now new root key value steps step level at entries after changes added sound small climbs rebalanced goes store before meets =
     let was : Store = laid begun store in
     let above = step_above begun root key steps step level at climbs.bounds entries climbs.down in
     let free : IsFree was (aim_of key value begun new) = λ q given. meets.fresh q given.0 given.1 in
-    let done = settled_above begun now new root key value steps step level at entries after changes added None sound small climbs settled goes above store before meets in
+    let done = rebalanced_above begun now new root key value steps step level at entries after changes added None sound small climbs rebalanced goes above store before meets in
     let agrees_begun : Agrees store begun = Does-agrees [] climbs.reads store (Does-agrees [] goes store meets.agrees) in
     let there = Descends-laid begun begun store root key steps (suc level) step.at.0 above.asked step.node.entries (only_read-refl begun) sound agrees_begun above.comes in
     let held = root_held was above.comes.top root before meets.content (first_node was above.comes.top root root_bounds steps key (suc level) step.at.0 above.asked step.node.entries there.0 there.1) in
-    let replaced = way_replaced was (overlaid (added ++ changes) was) above.comes.top root root_bounds (map.entries before) held.0 steps key (suc level) step.at.0 above.asked (aim_of key value begun new) held.1 there.0 done free in
+    let replaced = path_replaced was (overlaid (added ++ changes) was) above.comes.top root root_bounds (map.entries before) held.0 steps key (suc level) step.at.0 above.asked (aim_of key value begun new) held.1 there.0 done free in
     replaced_changed was (overlaid (added ++ changes) was) above.comes.top above.comes.top root (aim_of key value begun new) before meets.content replaced free
 
--- At the root the climb ends: settled, the change is planned.
+-- At the root the climb ends: rebalanced, the change is planned.
 module _ (begun now new : Seen) (root : ℕ) (key : List ℕ) (value : Option (List ℕ)) (level at : ℕ) (entries after : List Entry) (changes added : List Change)
     (small : now.next < 2 ^ 62 + 2 ^ 47) (climbs : Climbs begun now root key value [] level at entries after changes) (goes : Does [] now new)
     (store : Store) (before : Values) (meets : Meets store root begun new before) where
@@ -226,7 +226,7 @@ module _ (begun now new : Seen) (root : ℕ) (key : List ℕ) (value : Option (L
   put : (last : List Change) → added ≡ last → (q : ℕ) → is' q ≡ overlaid last is q
   put last planned q = overlaid-append added changes was q ∙ ap (λ (cs : List Change). overlaid cs is q) planned
 
-  pub rooted : RootSettled level root after now new changes added → Changed was is' root begun.next new.next (changed_content key value before)
+  pub rooted : RootRebalanced level root after now new changes added → Changed was is' root begun.next new.next (changed_content key value before)
   rooted (inl f) =
       let same : aim_of key value begun new ≡ aim_of key value begun now = ap (λ (n : ℕ). record (aim_of key value begun now) { last = n }) f.next in
       let m : Mending was is level root root_bounds entries after (aim_of key value begun new) = subst (Mending was is level root root_bounds entries after) (sym same) here in
@@ -239,10 +239,10 @@ module _ (begun now new : Seen) (root : ℕ) (key : List ℕ) (value : Option (L
       let puts = root_split_puts was is is' level root entries (s.front ++ s.back) _ _ _ (aim_of key value begun now) m climbs.reads.next free_more (put _ s.planned) in
       let done = root_split was is is' level root entries s.front s.back (aim_of key value begun now) m s.low s.front_part s.back_part climbs.reads.next (omega (arith, small)) free_more puts in
       replaced_changed was is' level (suc level) root (aim_of key value begun new) before meets.content (subst (λ (a : Aim). Replaced was is' level (suc level) root root_bounds a) (sym more) done) free
-  rooted (inr (inr (inl s))) = sunk s
+  rooted (inr (inr (inl s))) = collapsed s
     where
-      sunk : RootSinks level root after now new changes added → Changed was is' root begun.next new.next (changed_content key value before)
-      sunk s =
+      collapsed : RootCollapses level root after now new changes added → Changed was is' root begun.next new.next (changed_content key value before)
+      collapsed s =
           let aim : Aim = aim_of key value begun new in
           let same : aim ≡ aim_of key value begun now = ap (λ (n : ℕ). record (aim_of key value begun now) { last = n }) s.next in
           let m0 : Mending was is level root root_bounds entries after aim = subst (Mending was is level root root_bounds entries after) (sym same) here in
@@ -254,8 +254,8 @@ module _ (begun now new : Seen) (root : ℕ) (key : List ℕ) (value : Option (L
           let planned : added ≡ (s.child, None) ∷ (root, Some node.node.0.bytes) ∷ [] = s.planned ∙ ap (λ (b : Option (List ℕ)). (s.child, None) ∷ (root, b) ∷ []) block in
           let among : Contains entries s.only = climbs.lone s.only (omega (arith, s.level_is)) s.one in
           let old_child : IsGiven aim s.child → ⊥ = λ given. mending_child_filled was is s.below root root_bounds entries (s.only ∷ []) aim m s.only s.child among s.address (free s.child given) in
-          let puts = root_sunk_puts was is is' s.below root entries s.only.0 s.only.1 s.child node.node.0.bytes aim m s.address free there (put _ planned) in
-          let done : Replaced was is' (suc s.below) s.below root root_bounds aim = root_sunk was is is' s.below root entries s.only.0 s.only.1 s.child aim m s.address free old_child puts in
+          let puts = root_collapsed_puts was is is' s.below root entries s.only.0 s.only.1 s.child node.node.0.bytes aim m s.address free there (put _ planned) in
+          let done : Replaced was is' (suc s.below) s.below root root_bounds aim = root_collapsed was is is' s.below root entries s.only.0 s.only.1 s.child aim m s.address free old_child puts in
           replaced_changed was is' (suc s.below) s.below root aim before meets.content done free
   rooted (inr (inr (inr e))) =
       let aim : Aim = aim_of key value begun new in
@@ -266,19 +266,19 @@ module _ (begun now new : Seen) (root : ℕ) (key : List ℕ) (value : Option (L
       root_emptied was is is' root entries aim before meets.content m free (puts_one is is' root None (put _ e.planned))
 
 pub climbs_rooted : (begun now new : Seen) (root : ℕ) (key : List ℕ) (value : Option (List ℕ)) (level at : ℕ) (entries after : List Entry) (changes added : List Change) → now.next < 2 ^ 62 + 2 ^ 47
-    → Climbs begun now root key value [] level at entries after changes → RootSettled level root after now new changes added → Does [] now new → IsPlanned root key value begun new (added ++ changes)
-climbs_rooted begun now new root key value level at entries after changes added small climbs settled goes store before meets =
-    rooted begun now new root key value level at entries after changes added small climbs goes store before meets settled
+    → Climbs begun now root key value [] level at entries after changes → RootRebalanced level root after now new changes added → Does [] now new → IsPlanned root key value begun new (added ++ changes)
+climbs_rooted begun now new root key value level at entries after changes added small climbs rebalanced goes store before meets =
+    rooted begun now new root key value level at entries after changes added small climbs goes store before meets rebalanced
 
 pub rooted_own : (begun now new : Seen) (root : ℕ) (key : List ℕ) (value : Option (List ℕ)) (level at : ℕ) (entries after : List Entry) (changes added : List Change) → IsSound begun
-    → Climbs begun now root key value [] level at entries after changes → RootSettled level root after now new changes added → Does [] now new → TouchesOwn root begun new (added ++ changes)
-rooted_own begun now new root key value level at entries after changes added sound climbs settled goes store q agrees e =
+    → Climbs begun now root key value [] level at entries after changes → RootRebalanced level root after now new changes added → Does [] now new → TouchesOwn root begun new (added ++ changes)
+rooted_own begun now new root key value level at entries after changes added sound climbs rebalanced goes store q agrees e =
     let agrees_now : Agrees store now = Does-agrees [] goes store agrees in
     let agrees_begun : Agrees store begun = Does-agrees [] climbs.reads store agrees_now in
     let there = Descends-laid begun begun store root key [] level at climbs.bounds entries (only_read-refl begun) sound agrees_begun climbs.down in
     let node : NodeAt (laid begun store) root level entries = subst (λ (x : ℕ). NodeAt (laid begun store) x level entries) (sym climbs.down.descent.1) there.1.0 in
     elim (among_append added changes q e) [
-      | inl here ↦ elim (root_touches level root after now new changes added settled q here) [
+      | inl here ↦ elim (root_touches level root after now new changes added rebalanced q here) [
         | inl same ↦ inl same
         | inr (inl given) ↦ inr (inr (omega (arith, climbs.reads.next, given.0), given.1))
         | inr (inr only) ↦ inr (inl (only_child (laid begun store) level root entries q node only.1 (only.0, climbs.lone only.0 only.1 only.2, only.3)))

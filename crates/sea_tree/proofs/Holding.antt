@@ -10,7 +10,7 @@ use Rattle.sea_node.specs.Node.{Spells}
 use Rattle.sea_node.proofs.Keys.{IsBelowAll, AreBelow, IsNotAbove-trans, IsNotAbove-below, IsNotAbove-itself, below_then_not_above, not_above_then_below, IsRising-nil, IsRising-head, IsRising-tail, IsRising-append}
 use Rattle.sea_node.proofs.Nodes.{one_spelled}
 use Rattle.sea_tree.specs.Tree.{NodeAt, Bounds, root_bounds, IsWithin, IsInPlace, next_key, child_bounds, IsAddress, EachChild, IsSubtree, IsTree, IsBelowNode, IsNodeOf}
-use Rattle.sea_tree.specs.Breaks.{HasNode, Child, BreaksBelow, BreaksFirst, BreaksOnWay, FromRoot, Breaks, IsFirstBreak, IsBreakOnWay}
+use Rattle.sea_tree.specs.Breaks.{HasNode, Child, BreaksBelow, BreaksFirst, BreaksOnPath, FromRoot, Breaks, IsFirstBreak, IsBreakOnPath}
 use Rattle.sea_tree.specs.Subtrees.{AllBelow, Holds, Below}
 
 -- ---- the same as in the specs
@@ -431,11 +431,11 @@ breaks_first store (suc level) at bounds q breaks = elim breaks [
   | inr d ↦ inr (d.0, d.1, (d.2.0, d.2.1, d.2.2, d.2.3, d.2.4, breaks_first store level d.2.2 d.2.3 q d.2.6))
 ]
 
-pub breaks_on_way : (store : Store) (key : List ℕ) (level at : ℕ) (bounds : Bounds) (q : ℕ) → BreaksOnWay store key level at bounds q → BreaksBelow store level at bounds q
-breaks_on_way store key zero at bounds q breaks = breaks
-breaks_on_way store key (suc level) at bounds q breaks = elim breaks [
+pub breaks_on_path : (store : Store) (key : List ℕ) (level at : ℕ) (bounds : Bounds) (q : ℕ) → BreaksOnPath store key level at bounds q → BreaksBelow store level at bounds q
+breaks_on_path store key zero at bounds q breaks = breaks
+breaks_on_path store key (suc level) at bounds q breaks = elim breaks [
   | inl here ↦ inl here
-  | inr d ↦ inr (d.0, d.1, (d.2.0, d.2.1, d.2.2, d.2.3, d.2.4, breaks_on_way store key level d.2.2 d.2.3 q d.2.6))
+  | inr d ↦ inr (d.0, d.1, (d.2.0, d.2.1, d.2.2, d.2.3, d.2.4, breaks_on_path store key level d.2.2 d.2.3 q d.2.6))
 ]
 
 from_root : (P Q : ℕ → ℕ → Bounds → ℕ → Type 0) (store : Store) (root q : ℕ) → ((level : ℕ) → P level root root_bounds q → Q level root root_bounds q) → FromRoot P store root q → FromRoot Q store root q
@@ -448,9 +448,9 @@ pub breaks_from_first : (store : Store) (root q : ℕ) → IsFirstBreak store ro
 breaks_from_first store root q breaks =
     from_root (BreaksFirst store) (BreaksBelow store) store root q (λ level. breaks_first store level root root_bounds q) breaks
 
-pub breaks_from_way : (store : Store) (key : List ℕ) (root q : ℕ) → IsBreakOnWay store key root q → Breaks store root q
-breaks_from_way store key root q breaks =
-    from_root (BreaksOnWay store key) (BreaksBelow store) store root q (λ level. breaks_on_way store key level root root_bounds q) breaks
+pub breaks_from_path : (store : Store) (key : List ℕ) (root q : ℕ) → IsBreakOnPath store key root q → Breaks store root q
+breaks_from_path store key root q breaks =
+    from_root (BreaksOnPath store key) (BreaksBelow store) store root q (λ level. breaks_on_path store key level root root_bounds q) breaks
 
 pub whole_tree : (store : Store) (root q : ℕ) → IsTree store root → Breaks store root q → ⊥
 whole_tree store root q tree breaks = elim tree [
@@ -476,11 +476,11 @@ whole_tree store root q tree breaks = elim tree [
 pub whole_tree_first : (store : Store) (root q : ℕ) → IsTree store root → IsFirstBreak store root q → ⊥
 whole_tree_first store root q tree breaks = whole_tree store root q tree (breaks_from_first store root q breaks)
 
-pub whole_tree_way : (store : Store) (key : List ℕ) (root q : ℕ) → IsTree store root → IsBreakOnWay store key root q → ⊥
-whole_tree_way store key root q tree breaks = whole_tree store root q tree (breaks_from_way store key root q breaks)
+pub whole_tree_path : (store : Store) (key : List ℕ) (root q : ℕ) → IsTree store root → IsBreakOnPath store key root q → ⊥
+whole_tree_path store key root q tree breaks = whole_tree store root q tree (breaks_from_path store key root q breaks)
 
 pub unbroken_first : (store : Store) (level at : ℕ) (bounds : Bounds) (q : ℕ) → IsSubtree store level at bounds → BreaksFirst store level at bounds q → ⊥
 unbroken_first store level at bounds q tree breaks = unbroken store level at bounds q tree (breaks_first store level at bounds q breaks)
 
-pub unbroken_way : (store : Store) (key : List ℕ) (level at : ℕ) (bounds : Bounds) (q : ℕ) → IsSubtree store level at bounds → BreaksOnWay store key level at bounds q → ⊥
-unbroken_way store key level at bounds q tree breaks = unbroken store level at bounds q tree (breaks_on_way store key level at bounds q breaks)
+pub unbroken_path : (store : Store) (key : List ℕ) (level at : ℕ) (bounds : Bounds) (q : ℕ) → IsSubtree store level at bounds → BreaksOnPath store key level at bounds q → ⊥
+unbroken_path store key level at bounds q tree breaks = unbroken store level at bounds q tree (breaks_on_path store key level at bounds q breaks)

@@ -14,18 +14,18 @@ use Rattle.sea_node.specs.Node.{IsNode}
 use Rattle.sea_node.specs.Lookup.{front_key, EndsAt, AreAbove, Finds, Tells}
 use Rattle.sea_node.proofs.Keys.{same_key, key_order-itself, key_order-back, not_above_not_below, below_then_not_above, AreBelow, IsRising-split}
 use Rattle.sea_tree.specs.declared.fault.TreeFault.{TreeFault}
-use Rattle.sea_tree.specs.declared.way.Step.{Step}
+use Rattle.sea_tree.specs.declared.path.Step.{Step}
 use Rattle.sea_tree.specs.Tree.{Bounds, root_bounds, IsWithin, LiesWithin, IsAddress, child_bounds, next_key, first_key, IsInPlace}
 use Rattle.sea_tree.specs.Breaks.{HasNode}
-use Rattle.sea_tree.specs.Calls.{IsWayFault, IsWholeWay}
+use Rattle.sea_tree.specs.Calls.{IsPathFault, IsWholePath}
 use Rattle.sea_tree.specs.Content.{HasContent}
 use Rattle.sea_tree.specs.Place.{Splits, IsPlaceFault}
-use Rattle.sea_tree.specs.Way.{ComesDown, IsWay}
+use Rattle.sea_tree.specs.Path.{ComesDown, IsPath}
 use Rattle.sea_tree.specs.Lookup.{LooksDown, LooksAtLeaf}
-use Rattle.sea_tree.proofs.Ways.{ComesDown-later, Descends-laid, no_break}
-use Rattle.sea_tree.specs.Reads.{IsOnWay}
-use Rattle.sea_tree.proofs.OnWays.{step_on_way}
-use Rattle.sea_tree.proofs.WaySteps.{IsStep, comes_further, step_fault}
+use Rattle.sea_tree.proofs.Paths.{ComesDown-later, Descends-laid, no_break}
+use Rattle.sea_tree.specs.Reads.{IsOnPath}
+use Rattle.sea_tree.proofs.OnPaths.{step_on_path}
+use Rattle.sea_tree.proofs.PathSteps.{IsStep, comes_further, step_fault}
 use Rattle.sea_tree.proofs.Leaves.{leaf_find}
 use Rattle.sea_tree.proofs.Places.{placed, first_within, first_same}
 use Rattle.sea_tree.proofs.Splits.{All-middle, middle_at}
@@ -78,7 +78,7 @@ lies_below key (e ∷ after) upper above within = above.0
 one_below : (n : ℕ) → 1 ≤ n → n ≡ suc (n - 1)
 one_below n some = omega arith
 
--- the entry whose child is next on the way
+-- the entry whose child is next on the path
 pub record Turns (key : List ℕ) (bounds : Bounds) (upper : Option (List ℕ)) (lookup : Lookup) (entries : List Entry) : Type 0 where
   pub entry : Entry
   pub before : List Entry
@@ -162,15 +162,15 @@ module _ (mid new : Seen) (root : ℕ) (key : List ℕ) (upper : Option (List �
     tells = tells;
   }
 
-  pub look_fault : (old : Seen) → OnlyRead old new → IsSound new → (fault : TreeFault) → IsPlaceFault (lookup.level - 1) child below new fault → IsWayFault root key old new fault
+  pub look_fault : (old : Seen) → OnlyRead old new → IsSound new → (fault : TreeFault) → IsPlaceFault (lookup.level - 1) child below new fault → IsPathFault root key old new fault
   unfolding step
   look_fault old all sound fault blames =
       step_fault old new root key all sound looks.steps (lookup.level - 1) looks.at looks.bounds step child below fault goes blames
 
-  pub looks_on_way : (old : Seen) → OnlyRead old new → IsSound new → (store : Store) → Agrees store new → IsOnWay (laid old store) key root child
+  pub looks_on_path : (old : Seen) → OnlyRead old new → IsSound new → (store : Store) → Agrees store new → IsOnPath (laid old store) key root child
   unfolding step
-  looks_on_way old all sound store agrees =
-      step_on_way old new root key all sound looks.steps (lookup.level - 1) looks.at looks.bounds step child below goes store agrees
+  looks_on_path old all sound store agrees =
+      step_on_path old new root key all sound looks.steps (lookup.level - 1) looks.at looks.bounds step child below goes store agrees
 
 -- ---- the leaf
 
@@ -181,17 +181,17 @@ module _ (old new : Seen) (root : ℕ) (key : List ℕ) (lookup : Lookup) (reads
   down : ComesDown new root key looks.steps 0 looks.at looks.bounds looks.entries
   down = subst (λ (l : ℕ). ComesDown new root key looks.steps l looks.at looks.bounds looks.entries) at_leaf.leaf looks.down
 
-  way : (store : Store) → Agrees store new → IsWay (laid old store) down.top root root_bounds looks.steps key looks.at looks.entries looks.bounds
-  way store agrees =
+  path : (store : Store) → Agrees store new → IsPath (laid old store) down.top root root_bounds looks.steps key looks.at looks.entries looks.bounds
+  path store agrees =
       let l = Descends-laid old new store root key looks.steps 0 looks.at looks.bounds looks.entries reads sound agrees down in
       (l.0, l.1, down.leads)
 
-  pub whole_leaf : IsWholeWay root key old new
-  whole_leaf = λ store at agrees breaks. no_break (laid old store) down.top root looks.steps key looks.at looks.entries looks.bounds at (way store agrees) breaks
+  pub whole_leaf : IsWholePath root key old new
+  whole_leaf = λ store at agrees breaks. no_break (laid old store) down.top root looks.steps key looks.at looks.entries looks.bounds at (path store agrees) breaks
 
   module _ (store : Store) (content : Values) (agrees : Agrees store new) (holds : HasContent (laid old store) root content) where
     content_is : find key_order key looks.entries ≡ map.get content key
-    content_is = leaf_find (laid old store) down.top root looks.steps key looks.at looks.entries looks.bounds content (way store agrees) holds key down.leads
+    content_is = leaf_find (laid old store) down.top root looks.steps key looks.at looks.entries looks.bounds content (path store agrees) holds key down.leads
 
     rising : IsRising looks.entries
     rising = down.node.0.spells.node.rising

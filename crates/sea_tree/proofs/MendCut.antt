@@ -1,4 +1,4 @@
--- Two adjacent children are cut anew: each takes a part of the entries of both.
+-- Two adjacent children are redistributed: each takes a part of the entries of both.
 use Rattle.std.proofs.Common.{◌≡◌, ◌⊎◌, ℕ, suc, ◌≤◌, List, [], ◌∷◌, ◌++◌, length, Some, refl, sym, ap, subst, ◌∙◌, inl, inr, arith, append_assoc, None}
 use Rattle.std.specs.List.{All, Contains}
 use Rattle.std.proofs.lemmas.List.Elements.{All-head, All-cons, All-weaker, All-from_recursion, Contains-append_left, Contains-append_right, Contains-append_cases}
@@ -17,7 +17,7 @@ use Rattle.sea_tree.proofs.MendNear.{All-left, All-right, before_below, moved-at
 use Rattle.sea_tree.proofs.MendSides.{PutsTwo, puts_two, puts_turned, both, below_both, both_first, both_second, both_cases}
 use Rattle.sea_tree.proofs.MendSplit.{IsFree, TwoHeld, two_held}
 use Rattle.sea_tree.proofs.MendPair.{AreInPlace, Paired}
-use Rattle.sea_tree.proofs.MendJoin.{beside_differ, put_kept, put_below, put_among, put_still, put_mended, put_replaced}
+use Rattle.sea_tree.proofs.MendMerge.{beside_differ, put_kept, put_below, put_among, put_still, put_mended, put_replaced}
 
 -- ---- two parts of entries in their place
 
@@ -144,7 +144,7 @@ pub cut_puts : (was is is' : Store) (level top : ℕ) (bounds : Bounds) (a : Lis
 cut_puts was is is' level top bounds a one two b x y entries left right aim p same =
     puts_turned (puts_two is is' y (Some (node_bytes level right)) x (Some (node_bytes level left)) (beside_differ was level top bounds a one two b x y p.beside) same)
 
--- Two adjacent children are cut anew, and the node above has the second one's new key.
+-- Two adjacent children are redistributed, and the node above has the second one's new key.
 pub cut_mended : (was is is' : Store) (level top : ℕ) (bounds : Bounds) (a : List Entry) (one two : Entry) (b : List Entry) (x y : ℕ) (entries left right : List Entry) (aim : Aim) → Paired was is level top bounds a one two b x y entries aim → IsFree was aim → entries ≡ left ++ right → IsPart left → IsPart right → ((q : ℕ) → is' q ≡ overlaid ((y, Some (node_bytes level right)) ∷ (x, Some (node_bytes level left)) ∷ []) is q) → Mending was is' (suc level) top bounds (a ++ (one ∷ (two ∷ b))) (moved two.0 (first_key right) (a ++ (one ∷ (two ∷ b)))) aim
 cut_mended was is is' level top bounds a one two b x y entries left right aim p free split first second same =
     cut_moved was is is' level top bounds a one two b x y left right aim (subst (λ (es : List Entry). Paired was is level top bounds a one two b x y es aim) split p) free first second

@@ -182,8 +182,8 @@ near_rekeyed level bounds a left from to value b node place name below within =
 -- one entry of a node that takes another key
 pub moved-at : (level : ℕ) (before a : List Entry) (left : Entry) (from to value : List ℕ) (b : List Entry) → before ≡ a ++ (left ∷ ((from, value) ∷ b)) → IsNode level before → moved from to before ≡ a ++ (left ∷ ((to, value) ∷ b))
 moved-at level before a left from to value b split node =
-    let joined : before ≡ (a ++ (left ∷ [])) ++ ((from, value) ∷ b) = split ∙ sym (append_assoc a (left ∷ []) ((from, value) ∷ b)) in
-    ap (moved from to) joined ∙ moved_split from to value (a ++ (left ∷ [])) b (subst IsRising joined node.rising) ∙ append_assoc a (left ∷ []) ((to, value) ∷ b)
+    let merged : before ≡ (a ++ (left ∷ [])) ++ ((from, value) ∷ b) = split ∙ sym (append_assoc a (left ∷ []) ((from, value) ∷ b)) in
+    ap (moved from to) merged ∙ moved_split from to value (a ++ (left ∷ [])) b (subst IsRising merged node.rising) ∙ append_assoc a (left ∷ []) ((to, value) ∷ b)
 
 -- A node in its place is near it after an entry behind the first took another key, between its neighbours.
 pub IsNearPlace-moved : (level : ℕ) (bounds : Bounds) (before a : List Entry) (left : Entry) (from to value : List ℕ) (b : List Entry) → before ≡ a ++ (left ∷ ((from, value) ∷ b)) → IsNode level before → IsInPlace level bounds before → IsName to → IsBelow left.0 to → IsWithin to (next_key b bounds.upper) → IsNearPlace level bounds (after_edit (Moved from to) before)

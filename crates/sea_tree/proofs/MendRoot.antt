@@ -240,8 +240,8 @@ module _ (was is is' : Store) (level root : ℕ) (before : List Entry) (key valu
   }
 
   -- The root takes its only child's content, one level lower, and the child's address is left.
-  pub root_sunk : Replaced was is' (suc level) level root root_bounds aim
-  root_sunk = record {
+  pub root_collapsed : Replaced was is' (suc level) level root root_bounds aim
+  root_collapsed = record {
     old_pairs = m.old_pairs;
     new_pairs = m.below_is.1;
     old_nodes = root ∷ m.old_nodes;
@@ -294,14 +294,14 @@ child_apart was is level root before key value child aim m address free e =
     mending_new_apart was is (suc level) root root_bounds before ((key, value) ∷ []) aim m free (subst (λ (l : List ℕ). Contains l root) (sym m.below_is.9) (Contains-append_left m.below_is.3 m.below_is.4 root among))
 
 -- the two addresses as they are changed, the child's last
-pub root_sunk_puts : (was is is' : Store) (level root : ℕ) (before : List Entry) (key value : List ℕ) (child : ℕ) (bytes : List ℕ) (aim : Aim) → Mending was is (suc level) root root_bounds before ((key, value) ∷ []) aim → IsAddress value child → IsFree was aim → is child ≡ Some bytes → ((q : ℕ) → is' q ≡ overlaid ((child, None) ∷ (root, Some bytes) ∷ []) is q) → PutsTwo is is' root (is child) child None
-root_sunk_puts was is is' level root before key value child bytes aim m address free here same =
+pub root_collapsed_puts : (was is is' : Store) (level root : ℕ) (before : List Entry) (key value : List ℕ) (child : ℕ) (bytes : List ℕ) (aim : Aim) → Mending was is (suc level) root root_bounds before ((key, value) ∷ []) aim → IsAddress value child → IsFree was aim → is child ≡ Some bytes → ((q : ℕ) → is' q ≡ overlaid ((child, None) ∷ (root, Some bytes) ∷ []) is q) → PutsTwo is is' root (is child) child None
+root_collapsed_puts was is is' level root before key value child bytes aim m address free here same =
     let apart = child_apart was is level root before key value child aim m address free in
     subst (λ (x : Option (List ℕ)). PutsTwo is is' root x child None) (sym here) (puts_turned (puts_two is is' child None root (Some bytes) (λ e. apart (sym e)) same))
 
 -- and the root's last
-pub root_sunk_puts_turned : (was is is' : Store) (level root : ℕ) (before : List Entry) (key value : List ℕ) (child : ℕ) (bytes : List ℕ) (aim : Aim) → Mending was is (suc level) root root_bounds before ((key, value) ∷ []) aim → IsAddress value child → IsFree was aim → is child ≡ Some bytes → ((q : ℕ) → is' q ≡ overlaid ((root, Some bytes) ∷ (child, None) ∷ []) is q) → PutsTwo is is' root (is child) child None
-root_sunk_puts_turned was is is' level root before key value child bytes aim m address free here same =
+pub root_collapsed_puts_turned : (was is is' : Store) (level root : ℕ) (before : List Entry) (key value : List ℕ) (child : ℕ) (bytes : List ℕ) (aim : Aim) → Mending was is (suc level) root root_bounds before ((key, value) ∷ []) aim → IsAddress value child → IsFree was aim → is child ≡ Some bytes → ((q : ℕ) → is' q ≡ overlaid ((root, Some bytes) ∷ (child, None) ∷ []) is q) → PutsTwo is is' root (is child) child None
+root_collapsed_puts_turned was is is' level root before key value child bytes aim m address free here same =
     subst (λ (x : Option (List ℕ)). PutsTwo is is' root x child None) (sym here) (puts_two is is' root (Some bytes) child None (child_apart was is level root before key value child aim m address free) same)
 
 -- ---- the root is left without entries

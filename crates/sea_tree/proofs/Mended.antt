@@ -9,24 +9,24 @@ use Rattle.sea_node.specs.Node.{IsNode}
 use Rattle.sea_tree.specs.declared.edit.Edit.{Edit}
 use Rattle.sea_tree.specs.declared.fault.TreeFault.{TreeFault}
 use Rattle.sea_tree.specs.declared.fault.TreeFault.TheVariants.{Space, Broken}
-use Rattle.sea_tree.specs.declared.way.Step.{Step}
-use Rattle.sea_tree.specs.declared.way.Way.{Way}
+use Rattle.sea_tree.specs.declared.path.Step.{Step}
+use Rattle.sea_tree.specs.declared.path.Path.{Path}
 use Rattle.sea_tree.specs.Tree.{Bounds, NodeAt, root_bounds}
 use Rattle.sea_tree.specs.Breaks.{HasNode, IsBroken, Child, BreaksBelow}
-use Rattle.sea_tree.specs.Calls.{IsPlanFault, IsRootSettleFault}
+use Rattle.sea_tree.specs.Calls.{IsPlanFault, IsRootRebalanceFault}
 use Rattle.sea_tree.specs.Does.{Change, Does}
 use Rattle.sea_tree.specs.Mending.{after_edit, IsNearPlace}
-use Rattle.sea_tree.specs.Changing.{IsPlanned, TouchesOwn, RootSettled}
+use Rattle.sea_tree.specs.Changing.{IsPlanned, TouchesOwn, RootRebalanced}
 use Rattle.sea_tree.specs.Place.{meant}
-use Rattle.sea_tree.specs.Settled.{IsNearChild, Settled, IsSettleFault}
-use Rattle.sea_tree.specs.Way.{Descends, ComesDown, IsKnownWay}
+use Rattle.sea_tree.specs.Rebalanced.{IsNearChild, Rebalanced, IsRebalanceFault}
+use Rattle.sea_tree.specs.Path.{Descends, ComesDown, IsKnownPath}
 use Rattle.sea_tree.proofs.Doing.{Does-read, Does-known, Does-laid, Does-agrees}
 use Rattle.sea_tree.proofs.MendNear.{IsNearPlace-edited}
 use Rattle.sea_tree.proofs.Splits.{middle_within}
-use Rattle.sea_tree.proofs.Ways.{Descends-laid, HasNode-same, first_node}
-use Rattle.sea_tree.proofs.Climbs.{Climbs, climbs_begun, step_above, child_near, climbs_up, climbs_done, climbs_rooted, settled_own, rooted_own}
+use Rattle.sea_tree.proofs.Paths.{Descends-laid, HasNode-same, first_node}
+use Rattle.sea_tree.proofs.Climbs.{Climbs, climbs_begun, step_above, child_near, climbs_up, climbs_done, climbs_rooted, rebalanced_own, rooted_own}
 
--- the steps of a way are as many as the levels that it goes down
+-- the steps of a path are as many as the levels that it goes down
 descends_by : (s : Store) (level at : ℕ) (bounds : Bounds) (steps : List Step) (key : List ℕ) (n q : ℕ) (b : Bounds) → Descends s level at bounds steps key n q b → level ≡ length steps + n
 descends_by s level at bounds [] key n q b d = omega (arith, d.0)
 descends_by s zero at bounds (step ∷ steps) key n q b d = absurd d
@@ -38,13 +38,13 @@ steps_few seen root key steps level at bounds entries down =
     omega (arith, descends_by seen.view down.top root root_bounds steps key level at bounds down.descent, first.1.0.spells.node.level_fits)
 
 -- the loop begins
-pub begins : (begun : Seen) (root : ℕ) (key : List ℕ) (value : Option (List ℕ)) (way : Way) → IsSound begun → IsName key → IfSome value (λ v. length v ≤ 1024) → IsKnownWay begun root key way
-    → Climbs begun begun root key value way.steps.items way.leaf.level way.at.0 way.leaf.entries (edited key value way.leaf.entries) [] × (length way.steps.items ≤ 7)
-begins begun root key value way sound name short known =
-    let node : IsNode 0 way.leaf.entries = known.down.node.0.spells.node in
-    let near = IsNearPlace-edited 0 (meant way.bounds) key value way.leaf.entries node known.down.node.1 name short known.down.leads.0 known.down.leads.1 (λ some. absurd (omega (arith, some))) in (
-      climbs_begun begun root key value way sound name short known (Does-read (only_read-refl begun)) near,
-      omega (arith, steps_few begun root key way.steps.items 0 way.at.0 (meant way.bounds) way.leaf.entries known.down),
+pub begins : (begun : Seen) (root : ℕ) (key : List ℕ) (value : Option (List ℕ)) (path : Path) → IsSound begun → IsName key → IfSome value (λ v. length v ≤ 1024) → IsKnownPath begun root key path
+    → Climbs begun begun root key value path.steps.items path.leaf.level path.at.0 path.leaf.entries (edited key value path.leaf.entries) [] × (length path.steps.items ≤ 7)
+begins begun root key value path sound name short known =
+    let node : IsNode 0 path.leaf.entries = known.down.node.0.spells.node in
+    let near = IsNearPlace-edited 0 (meant path.bounds) key value path.leaf.entries node known.down.node.1 name short known.down.leads.0 known.down.leads.1 (λ some. absurd (omega (arith, some))) in (
+      climbs_begun begun root key value path sound name short known (Does-read (only_read-refl begun)) near,
+      omega (arith, steps_few begun root key path.steps.items 0 path.at.0 (meant path.bounds) path.leaf.entries known.down),
     )
 
 -- What a turn needs of its step.
@@ -73,32 +73,32 @@ turns begun now root key value steps init step level at entries after changes is
 
 -- and what it comes to
 pub goes_up : (begun now new : Seen) (root : ℕ) (key : List ℕ) (value : Option (List ℕ)) (steps init : List Step) (step : Step) (level at : ℕ) (entries after : List Entry) (changes changes' added : List Change) (edit : Edit)
-    → IsSound begun → now.next < 2 ^ 62 + 2 ^ 47 → steps ≡ init ++ step ∷ [] → Climbs begun now root key value steps level at entries after changes → changes' ≡ added ++ changes → Settled level at after step now new added (Some edit) → Does [] now new
+    → IsSound begun → now.next < 2 ^ 62 + 2 ^ 47 → steps ≡ init ++ step ∷ [] → Climbs begun now root key value steps level at entries after changes → changes' ≡ added ++ changes → Rebalanced level at after step now new added (Some edit) → Does [] now new
     → Climbs begun new root key value init step.node.level step.at.0 step.node.entries (after_edit edit step.node.entries) changes'
-goes_up begun now new root key value steps init step level at entries after changes changes' added edit sound small is climbs0 plans settled goes =
+goes_up begun now new root key value steps init step level at entries after changes changes' added edit sound small is climbs0 plans rebalanced goes =
     let climbs : Climbs begun now root key value (init ++ step ∷ []) level at entries after changes = subst (λ (l : List Step). Climbs begun now root key value l level at entries after changes) is climbs0 in
     let above = step_above begun root key init step level at climbs.bounds entries climbs.down in
-    let up = climbs_up begun now new root key value init step level at entries after changes added edit sound small climbs settled goes in
+    let up = climbs_up begun now new root key value init step level at entries after changes added edit sound small climbs rebalanced goes in
     subst (λ (l : ℕ). Climbs begun new root key value init l step.at.0 step.node.entries (after_edit edit step.node.entries) changes') (sym above.down.level_is)
     (subst (Climbs begun new root key value init (suc level) step.at.0 step.node.entries (after_edit edit step.node.entries)) (sym plans) up)
 
 pub ends : (begun now new : Seen) (root : ℕ) (key : List ℕ) (value : Option (List ℕ)) (steps init : List Step) (step : Step) (level at : ℕ) (entries after : List Entry) (changes changes' added : List Change)
-    → IsSound begun → now.next < 2 ^ 62 + 2 ^ 47 → steps ≡ init ++ step ∷ [] → Climbs begun now root key value steps level at entries after changes → changes' ≡ added ++ changes → Settled level at after step now new added None → Does [] now new
+    → IsSound begun → now.next < 2 ^ 62 + 2 ^ 47 → steps ≡ init ++ step ∷ [] → Climbs begun now root key value steps level at entries after changes → changes' ≡ added ++ changes → Rebalanced level at after step now new added None → Does [] now new
     → IsPlanned root key value begun new changes'
-ends begun now new root key value steps init step level at entries after changes changes' added sound small is climbs0 plans settled goes =
+ends begun now new root key value steps init step level at entries after changes changes' added sound small is climbs0 plans rebalanced goes =
     let climbs : Climbs begun now root key value (init ++ step ∷ []) level at entries after changes = subst (λ (l : List Step). Climbs begun now root key value l level at entries after changes) is climbs0 in
-    subst (IsPlanned root key value begun new) (sym plans) (climbs_done begun now new root key value init step level at entries after changes added sound small climbs settled goes)
+    subst (IsPlanned root key value begun new) (sym plans) (climbs_done begun now new root key value init step level at entries after changes added sound small climbs rebalanced goes)
 
 pub ends_own : (begun now new : Seen) (root : ℕ) (key : List ℕ) (value : Option (List ℕ)) (steps init : List Step) (step : Step) (level at : ℕ) (entries after : List Entry) (changes changes' added : List Change)
-    → IsSound begun → steps ≡ init ++ step ∷ [] → Climbs begun now root key value steps level at entries after changes → changes' ≡ added ++ changes → Settled level at after step now new added None → Does [] now new
+    → IsSound begun → steps ≡ init ++ step ∷ [] → Climbs begun now root key value steps level at entries after changes → changes' ≡ added ++ changes → Rebalanced level at after step now new added None → Does [] now new
     → TouchesOwn root begun new changes'
-ends_own begun now new root key value steps init step level at entries after changes changes' added sound is climbs0 plans settled goes =
+ends_own begun now new root key value steps init step level at entries after changes changes' added sound is climbs0 plans rebalanced goes =
     let climbs : Climbs begun now root key value (init ++ step ∷ []) level at entries after changes = subst (λ (l : List Step). Climbs begun now root key value l level at entries after changes) is climbs0 in
-    subst (TouchesOwn root begun new) (sym plans) (settled_own begun now new root key value init step level at entries after changes added None sound climbs settled goes)
+    subst (TouchesOwn root begun new) (sym plans) (rebalanced_own begun now new root key value init step level at entries after changes added None sound climbs rebalanced goes)
 
 -- ---- at the root
 
--- What settling the root needs.
+-- What rebalancing the root needs.
 pub record AtRoot (now : Seen) (root level at : ℕ) (entries after : List Entry) : Type 0 where
   pub known : IsKnown now root
   pub node : HasNode now.view level root root_bounds entries
@@ -123,20 +123,20 @@ comes_to_root begun now root key value steps level at entries after changes none
     }
 
 pub roots : (begun now new : Seen) (root : ℕ) (key : List ℕ) (value : Option (List ℕ)) (steps : List Step) (level at : ℕ) (entries after : List Entry) (changes changes' added : List Change) → now.next < 2 ^ 62 + 2 ^ 47 → steps ≡ []
-    → Climbs begun now root key value steps level at entries after changes → changes' ≡ added ++ changes → RootSettled level root after now new changes added → Does [] now new → IsPlanned root key value begun new changes'
-roots begun now new root key value steps level at entries after changes changes' added small none climbs0 plans settled goes =
+    → Climbs begun now root key value steps level at entries after changes → changes' ≡ added ++ changes → RootRebalanced level root after now new changes added → Does [] now new → IsPlanned root key value begun new changes'
+roots begun now new root key value steps level at entries after changes changes' added small none climbs0 plans rebalanced goes =
     let climbs : Climbs begun now root key value [] level at entries after changes = subst (λ (l : List Step). Climbs begun now root key value l level at entries after changes) none climbs0 in
-    subst (IsPlanned root key value begun new) (sym plans) (climbs_rooted begun now new root key value level at entries after changes added small climbs settled goes)
+    subst (IsPlanned root key value begun new) (sym plans) (climbs_rooted begun now new root key value level at entries after changes added small climbs rebalanced goes)
 
 pub roots_own : (begun now new : Seen) (root : ℕ) (key : List ℕ) (value : Option (List ℕ)) (steps : List Step) (level at : ℕ) (entries after : List Entry) (changes changes' added : List Change) → IsSound begun → steps ≡ []
-    → Climbs begun now root key value steps level at entries after changes → changes' ≡ added ++ changes → RootSettled level root after now new changes added → Does [] now new → TouchesOwn root begun new changes'
-roots_own begun now new root key value steps level at entries after changes changes' added sound none climbs0 plans settled goes =
+    → Climbs begun now root key value steps level at entries after changes → changes' ≡ added ++ changes → RootRebalanced level root after now new changes added → Does [] now new → TouchesOwn root begun new changes'
+roots_own begun now new root key value steps level at entries after changes changes' added sound none climbs0 plans rebalanced goes =
     let climbs : Climbs begun now root key value [] level at entries after changes = subst (λ (l : List Step). Climbs begun now root key value l level at entries after changes) none climbs0 in
-    subst (TouchesOwn root begun new) (sym plans) (rooted_own begun now new root key value level at entries after changes added sound climbs settled goes)
+    subst (TouchesOwn root begun new) (sym plans) (rooted_own begun now new root key value level at entries after changes added sound climbs rebalanced goes)
 
 -- ---- faults
 
--- a child of a node at the end of a way that is no node in its place breaks the tree
+-- a child of a node at the end of a path that is no node in its place breaks the tree
 broken_beside : (s : Store) (level at : ℕ) (bounds : Bounds) (steps : List Step) (key : List ℕ) (n q : ℕ) (b : Bounds) (es front back : List Entry) (child : ℕ) (asked : Bounds) → Descends s level at bounds steps key (suc n) q b → HasNode s (suc n) q b es → Child es b.upper front back child asked → IsBroken s n child asked → BreaksBelow s level at bounds child
 broken_beside s zero at bounds [] key n q b es front back child asked d node is broken = absurd (omega (arith, d.0))
 broken_beside s (suc level) at bounds [] key n q b es front back child asked d node is broken =
@@ -156,9 +156,9 @@ broken_beside s (suc level) at bounds (step ∷ steps) key n q b es front back c
 
 module _ (begun now new : Seen) (root : ℕ) (key : List ℕ) (value : Option (List ℕ)) (steps init : List Step) (step : Step) (level at : ℕ) (entries after : List Entry) (changes : List Change)
     (sound : IsSound begun) (is : steps ≡ init ++ step ∷ []) (climbs0 : Climbs begun now root key value steps level at entries after changes) where
-  pub settle_fault : (fault : TreeFault) → IsSettleFault level step now new fault → IsPlanFault root begun new fault
-  settle_fault (Space fault) cause = tt
-  settle_fault (Broken broken) found = λ store agrees.
+  pub rebalance_fault : (fault : TreeFault) → IsRebalanceFault level step now new fault → IsPlanFault root begun new fault
+  rebalance_fault (Space fault) cause = tt
+  rebalance_fault (Broken broken) found = λ store agrees.
       let climbs : Climbs begun now root key value (init ++ step ∷ []) level at entries after changes = subst (λ (l : List Step). Climbs begun now root key value l level at entries after changes) is climbs0 in
       let above = step_above begun root key init step level at climbs.bounds entries climbs.down in
       let agrees_now : Agrees store now = Does-agrees [] (Does-read found.0) store agrees in
@@ -172,7 +172,7 @@ module _ (begun now new : Seen) (root : ℕ) (key : List ℕ) (value : Option (L
         inr (above.comes.top, (first.0, first.1), broken_beside (laid begun store) above.comes.top root root_bounds init key level step.at.0 above.asked step.node.entries found.1.0 found.1.1 broken.0 found.1.2 there.0 there.1 beside unread),
       )
 
-pub root_fault : (begun now new : Seen) (root : ℕ) → Does [] begun now → (fault : TreeFault) → IsRootSettleFault root now new fault → IsPlanFault root begun new fault
+pub root_fault : (begun now new : Seen) (root : ℕ) → Does [] begun now → (fault : TreeFault) → IsRootRebalanceFault root now new fault → IsPlanFault root begun new fault
 root_fault begun now new root reads (Space fault) cause = tt
 root_fault begun now new root reads (Broken broken) found = λ store agrees.
     let full = found.1 store agrees in

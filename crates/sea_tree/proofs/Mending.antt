@@ -161,55 +161,55 @@ pub up_replaced : (was is : Store) (level at top : ℕ) (bounds : Bounds) (pairs
 up_replaced was is level at top bounds pairs nodes entries a e b aim holds node split address r free =
     up_sides was is level at top bounds a e b aim (sides was level top bounds pairs nodes a e b holds (subst (HasNode was (suc level) top bounds) split node)) address r free
 
--- a way down from a node of a level at an address with its bounds to another
-abbrev pub IsPath : Store → ℕ → ℕ → Bounds → ℕ → ℕ → Bounds → Type 0
-IsPath store zero at bounds last_level last last_bounds = (zero ≡ last_level) × (at ≡ last) × (bounds ≡ last_bounds)
-IsPath store (suc level) at bounds last_level last last_bounds =
+-- a path down from a node of a level at an address with its bounds to another
+abbrev pub IsDescent : Store → ℕ → ℕ → Bounds → ℕ → ℕ → Bounds → Type 0
+IsDescent store zero at bounds last_level last last_bounds = (zero ≡ last_level) × (at ≡ last) × (bounds ≡ last_bounds)
+IsDescent store (suc level) at bounds last_level last last_bounds =
     ((suc level ≡ last_level) × (at ≡ last) × (bounds ≡ last_bounds))
     ⊎ ((a : List Entry) × (e : Entry) × (b : List Entry) × (child : ℕ) × HasNode store (suc level) at bounds (a ++ (e ∷ b)) × IsAddress e.1 child
-    × IsPath store level child (child_bounds e b bounds.upper) last_level last last_bounds)
+    × IsDescent store level child (child_bounds e b bounds.upper) last_level last last_bounds)
 
--- a path goes on by one step
-pub path_more : (store : Store) (level at : ℕ) (bounds : Bounds) (last_level last : ℕ) (last_bounds : Bounds) (a : List Entry) (e : Entry) (b : List Entry) (child : ℕ) → IsPath store level at bounds (suc last_level) last last_bounds → HasNode store (suc last_level) last last_bounds (a ++ (e ∷ b)) → IsAddress e.1 child → IsPath store level at bounds last_level child (child_bounds e b last_bounds.upper)
-path_more store zero at bounds last_level last last_bounds a e b child path node address = absurd (omega (arith, path.0))
-path_more store (suc level) at bounds last_level last last_bounds a e b child (inl end) node address =
+-- a descent goes on by one step
+pub descent_more : (store : Store) (level at : ℕ) (bounds : Bounds) (last_level last : ℕ) (last_bounds : Bounds) (a : List Entry) (e : Entry) (b : List Entry) (child : ℕ) → IsDescent store level at bounds (suc last_level) last last_bounds → HasNode store (suc last_level) last last_bounds (a ++ (e ∷ b)) → IsAddress e.1 child → IsDescent store level at bounds last_level child (child_bounds e b last_bounds.upper)
+descent_more store zero at bounds last_level last last_bounds a e b child descent node address = absurd (omega (arith, descent.0))
+descent_more store (suc level) at bounds last_level last last_bounds a e b child (inl end) node address =
     let same : last_level ≡ level = omega (arith, end.0) in
     let here : HasNode store (suc level) at bounds (a ++ (e ∷ b)) = subst (λ (l : ℕ). HasNode store (suc l) at bounds (a ++ (e ∷ b))) same (subst (λ (c : Bounds). HasNode store (suc last_level) at c (a ++ (e ∷ b))) (sym end.2) (subst (λ (x : ℕ). HasNode store (suc last_level) x last_bounds (a ++ (e ∷ b))) (sym end.1) node)) in
     inr (a, e, b, child, here, address, ended level child (child_bounds e b bounds.upper) last_level (child_bounds e b last_bounds.upper) (sym same) (ap (λ (c : Bounds). child_bounds e b c.upper) end.2))
   where
-    ended : (level at : ℕ) (bounds : Bounds) (last_level : ℕ) (last_bounds : Bounds) → level ≡ last_level → bounds ≡ last_bounds → IsPath store level at bounds last_level at last_bounds
+    ended : (level at : ℕ) (bounds : Bounds) (last_level : ℕ) (last_bounds : Bounds) → level ≡ last_level → bounds ≡ last_bounds → IsDescent store level at bounds last_level at last_bounds
     ended zero at bounds last_level last_bounds levels are = (levels, refl, are)
     ended (suc level) at bounds last_level last_bounds levels are = inl (levels, refl, are)
-path_more store (suc level) at bounds last_level last last_bounds a e b child (inr step) node address =
-    inr (step.0, step.1, step.2, step.3, step.4, step.5, path_more store level step.3 (child_bounds step.1 step.2 bounds.upper) last_level last last_bounds a e b child step.6 node address)
+descent_more store (suc level) at bounds last_level last last_bounds a e b child (inr step) node address =
+    inr (step.0, step.1, step.2, step.3, step.4, step.5, descent_more store level step.3 (child_bounds step.1 step.2 bounds.upper) last_level last last_bounds a e b child step.6 node address)
 
-pub path_none : (store : Store) (level at : ℕ) (bounds : Bounds) → IsPath store level at bounds level at bounds
-path_none store zero at bounds = (refl, refl, refl)
-path_none store (suc level) at bounds = inl (refl, refl, refl)
+pub descent_none : (store : Store) (level at : ℕ) (bounds : Bounds) → IsDescent store level at bounds level at bounds
+descent_none store zero at bounds = (refl, refl, refl)
+descent_none store (suc level) at bounds = inl (refl, refl, refl)
 
 at_end : (P : ℕ → ℕ → Bounds → Type 0) (level at : ℕ) (bounds : Bounds) (last_level last : ℕ) (last_bounds : Bounds) → level ≡ last_level → at ≡ last → bounds ≡ last_bounds → P level at bounds → P last_level last last_bounds
 at_end P level at bounds last_level last last_bounds levels places are here =
     subst (P last_level last) are (subst (λ (x : ℕ). P last_level x bounds) places (subst (λ (l : ℕ). P l at bounds) levels here))
 
 -- there is a subtree at its end
-pub path_held : (store : Store) (level at : ℕ) (bounds : Bounds) (pairs : List Entry) (nodes : List ℕ) (last_level last : ℕ) (last_bounds : Bounds) → Holds store level at bounds pairs nodes → IsPath store level at bounds last_level last last_bounds → (p : List Entry) × (n : List ℕ) × Holds store last_level last last_bounds p n
-path_held store zero at bounds pairs nodes last_level last last_bounds holds path =
-    (pairs, nodes, at_end (λ l x c. Holds store l x c pairs nodes) zero at bounds last_level last last_bounds path.0 path.1 path.2 holds)
-path_held store (suc level) at bounds pairs nodes last_level last last_bounds holds (inl end) =
+pub descent_held : (store : Store) (level at : ℕ) (bounds : Bounds) (pairs : List Entry) (nodes : List ℕ) (last_level last : ℕ) (last_bounds : Bounds) → Holds store level at bounds pairs nodes → IsDescent store level at bounds last_level last last_bounds → (p : List Entry) × (n : List ℕ) × Holds store last_level last last_bounds p n
+descent_held store zero at bounds pairs nodes last_level last last_bounds holds descent =
+    (pairs, nodes, at_end (λ l x c. Holds store l x c pairs nodes) zero at bounds last_level last last_bounds descent.0 descent.1 descent.2 holds)
+descent_held store (suc level) at bounds pairs nodes last_level last last_bounds holds (inl end) =
     (pairs, nodes, at_end (λ l x c. Holds store l x c pairs nodes) (suc level) at bounds last_level last last_bounds end.0 end.1 end.2 holds)
-path_held store (suc level) at bounds pairs nodes last_level last last_bounds holds (inr step) =
+descent_held store (suc level) at bounds pairs nodes last_level last last_bounds holds (inr step) =
     let c = child_held store level at bounds pairs nodes step.0 step.1 step.2 step.3 holds step.4 step.5 in
-    path_held store level step.3 (child_bounds step.1 step.2 bounds.upper) c.0 c.1 last_level last last_bounds c.2 step.6
+    descent_held store level step.3 (child_bounds step.1 step.2 bounds.upper) c.0 c.1 last_level last last_bounds c.2 step.6
 
--- Where the change is made below the end of a path, it is below its beginning.
-pub path_replaced : (was is : Store) (level at : ℕ) (bounds : Bounds) (pairs : List Entry) (nodes : List ℕ) (last_level last : ℕ) (last_bounds : Bounds) (aim : Aim) → Holds was level at bounds pairs nodes → IsPath was level at bounds last_level last last_bounds → Replaced was is last_level last_level last last_bounds aim → IsFree was aim → Replaced was is level level at bounds aim
-path_replaced was is zero at bounds pairs nodes last_level last last_bounds aim holds path r free =
-    at_end (λ l x c. Replaced was is l l x c aim) last_level last last_bounds zero at bounds (sym path.0) (sym path.1) (sym path.2) r
-path_replaced was is (suc level) at bounds pairs nodes last_level last last_bounds aim holds (inl end) r free =
+-- Where the change is made below the end of a descent, it is below its beginning.
+pub descent_replaced : (was is : Store) (level at : ℕ) (bounds : Bounds) (pairs : List Entry) (nodes : List ℕ) (last_level last : ℕ) (last_bounds : Bounds) (aim : Aim) → Holds was level at bounds pairs nodes → IsDescent was level at bounds last_level last last_bounds → Replaced was is last_level last_level last last_bounds aim → IsFree was aim → Replaced was is level level at bounds aim
+descent_replaced was is zero at bounds pairs nodes last_level last last_bounds aim holds descent r free =
+    at_end (λ l x c. Replaced was is l l x c aim) last_level last last_bounds zero at bounds (sym descent.0) (sym descent.1) (sym descent.2) r
+descent_replaced was is (suc level) at bounds pairs nodes last_level last last_bounds aim holds (inl end) r free =
     at_end (λ l x c. Replaced was is l l x c aim) last_level last last_bounds (suc level) at bounds (sym end.0) (sym end.1) (sym end.2) r
-path_replaced was is (suc level) at bounds pairs nodes last_level last last_bounds aim holds (inr step) r free =
+descent_replaced was is (suc level) at bounds pairs nodes last_level last last_bounds aim holds (inr step) r free =
     let c = child_held was level at bounds pairs nodes step.0 step.1 step.2 step.3 holds step.4 step.5 in
-    let below : Replaced was is level level step.3 (child_bounds step.1 step.2 bounds.upper) aim = path_replaced was is level step.3 (child_bounds step.1 step.2 bounds.upper) c.0 c.1 last_level last last_bounds aim c.2 step.6 r free in
+    let below : Replaced was is level level step.3 (child_bounds step.1 step.2 bounds.upper) aim = descent_replaced was is level step.3 (child_bounds step.1 step.2 bounds.upper) c.0 c.1 last_level last last_bounds aim c.2 step.6 r free in
     up_replaced was is level step.3 at bounds pairs nodes (step.0 ++ (step.1 ∷ step.2)) step.0 step.1 step.2 aim holds step.4 refl step.5 below free
 
 -- ---- the change is made

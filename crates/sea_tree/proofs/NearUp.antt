@@ -1,4 +1,4 @@
--- What settling a node leaves to its parent keeps the parent near its place.
+-- What rebalancing a node leaves to its parent keeps the parent near its place.
 use Rattle.std.proofs.Common.{◌≡◌, ℕ, suc, ◌+◌, ◌≤◌, List, [], ◌∷◌, ◌++◌, length, Option, Some, None, sym, ◌∙◌, ap, subst, inl, inr, arith, append_assoc, length-append}
 use Rattle.std.specs.Option.{IfSome}
 use Rattle.sea_base.specs.Field.{big_endian}
@@ -11,12 +11,12 @@ use Rattle.sea_node.specs.Node.{IsNode}
 use Rattle.sea_node.proofs.Keys.{IsBelowAll, IsRising-split, IsRising-head, IsRising-tail, IsNotAbove-below, not_above_then_below}
 use Rattle.sea_tree.specs.declared.edit.Edit.{Edit}
 use Rattle.sea_tree.specs.declared.edit.Edit.TheVariants.{Pair, Moved}
-use Rattle.sea_tree.specs.declared.way.Step.{Step}
+use Rattle.sea_tree.specs.declared.path.Step.{Step}
 use Rattle.sea_tree.specs.Tree.{Bounds, IsInPlace, IsWithin, LiesWithin, child_bounds, next_key, first_key}
 use Rattle.sea_tree.specs.Does.{Change}
 use Rattle.sea_tree.specs.Mending.{after_edit, IsNearPlace}
-use Rattle.sea_tree.specs.Settled.{Neighbours, Settled}
-use Rattle.sea_tree.specs.Way.{StepsDown}
+use Rattle.sea_tree.specs.Rebalanced.{Neighbours, Rebalanced}
+use Rattle.sea_tree.specs.Path.{StepsDown}
 use Rattle.sea_tree.proofs.Splits.{All-middle, All-middle_next, lies_above}
 use Rattle.sea_tree.proofs.MendNear.{IsNearPlace-edited, IsNearPlace-moved, size-edited_inner, size-moved_inner, halves}
 use Rattle.sea_tree.proofs.MendPair.{AreInPlace, AreInPlace-near, AreInPlace-node, AreInPlace-append}
@@ -84,27 +84,27 @@ pub neighbours_placed : (store : Store) (n place : ℕ) (asked : Bounds) (step :
     → (pair : Neighbours n at entries step old new) → AreInPlace n (record { least = 1016; lower = pair.one.0; upper = next_key pair.after asked.upper }) (pair.one_entries ++ pair.two_entries)
 neighbours_placed store n place asked step key at below entries old new down near pair =
     let lies = second_lies n asked step.node.entries pair.before pair.after pair.one pair.two pair.split down.node.0.spells.node down.node.1 in
-    let join = AreInPlace-append n 1016 1016 pair.one.0 pair.two.0 (next_key pair.after asked.upper) pair.one_entries pair.two_entries (IsNotAbove-below pair.one.0 pair.two.0 lies.0) lies.2 in
+    let merge = AreInPlace-append n 1016 1016 pair.one.0 pair.two.0 (next_key pair.after asked.upper) pair.one_entries pair.two_entries (IsNotAbove-below pair.one.0 pair.two.0 lies.0) lies.2 in
     elim pair.sides [
       | inl left ↦
           let same = same_split down.before pair.before down.after (pair.two ∷ pair.after) down.entry pair.one (down.split.count ∙ left.0) (sym down.split.split ∙ pair.split) in
           let bounds : below ≡ child_bounds pair.one (pair.two ∷ pair.after) asked.upper = down.below_is ∙ (λ i. child_bounds (same.1 i) (same.2 i) asked.upper) in
           let here : AreInPlace n (child_bounds pair.one (pair.two ∷ pair.after) asked.upper) pair.one_entries = subst (AreInPlace n (child_bounds pair.one (pair.two ∷ pair.after) asked.upper)) left.2 (subst (λ (b : Bounds). AreInPlace n b entries) bounds (AreInPlace-near n below entries near)) in
           let there : AreInPlace n (child_bounds pair.two pair.after step.upper) pair.two_entries = AreInPlace-node (laid old (found_store new)) n pair.two_at (child_bounds pair.two pair.after step.upper) pair.two_entries (left.3 (found_store new) (agrees_found new)) in
-          join here (subst (λ (u : Option (List ℕ)). AreInPlace n (child_bounds pair.two pair.after u) pair.two_entries) down.upper_is there)
+          merge here (subst (λ (u : Option (List ℕ)). AreInPlace n (child_bounds pair.two pair.after u) pair.two_entries) down.upper_is there)
       | inr right ↦
-          let joined : step.node.entries ≡ (pair.before ++ pair.one ∷ []) ++ pair.two ∷ pair.after = pair.split ∙ sym (append_assoc pair.before (pair.one ∷ []) (pair.two ∷ pair.after)) in
-          let same = same_split down.before (pair.before ++ pair.one ∷ []) down.after pair.after down.entry pair.two (omega (arith, down.split.count, right.0, length-append pair.before (pair.one ∷ []))) (sym down.split.split ∙ joined) in
+          let merged : step.node.entries ≡ (pair.before ++ pair.one ∷ []) ++ pair.two ∷ pair.after = pair.split ∙ sym (append_assoc pair.before (pair.one ∷ []) (pair.two ∷ pair.after)) in
+          let same = same_split down.before (pair.before ++ pair.one ∷ []) down.after pair.after down.entry pair.two (omega (arith, down.split.count, right.0, length-append pair.before (pair.one ∷ []))) (sym down.split.split ∙ merged) in
           let bounds : below ≡ child_bounds pair.two pair.after asked.upper = down.below_is ∙ (λ i. child_bounds (same.1 i) (same.2 i) asked.upper) in
           let here : AreInPlace n (child_bounds pair.two pair.after asked.upper) pair.two_entries = subst (AreInPlace n (child_bounds pair.two pair.after asked.upper)) right.3 (subst (λ (b : Bounds). AreInPlace n b entries) bounds (AreInPlace-near n below entries near)) in
           let there : AreInPlace n (child_bounds pair.one (pair.two ∷ pair.after) step.upper) pair.one_entries = AreInPlace-node (laid old (found_store new)) n pair.one_at (child_bounds pair.one (pair.two ∷ pair.after) step.upper) pair.one_entries (right.4 (found_store new) (agrees_found new)) in
-          join there here
+          merge there here
     ]
 
 -- So what is left to the parent keeps it near its place.
 pub near_up : (store : Store) (n place : ℕ) (asked : Bounds) (step : Step) (key : List ℕ) (at : ℕ) (below : Bounds) (entries : List Entry) (old new : Seen) (changes : List Change) (edit : Edit) → StepsDown store n place asked step key at below → IsNearPlace n below entries
-    → Settled n at entries step old new changes (Some edit) → GrowsNear (suc n) asked step.node.entries (after_edit edit step.node.entries)
-near_up store n place asked step key at below entries old new changes edit down near settled = by_case settled
+    → Rebalanced n at entries step old new changes (Some edit) → GrowsNear (suc n) asked step.node.entries (after_edit edit step.node.entries)
+near_up store n place asked step key at below entries old new changes edit down near rebalanced = by_case rebalanced
   where
     es : List Entry
     es = step.node.entries
@@ -115,7 +115,7 @@ near_up store n place asked step key at below entries old new changes edit down 
     moved_to : (e : Edit) → Some edit ≡ Some e → GrowsNear (suc n) asked es (after_edit e es) → GrowsNear (suc n) asked es (after_edit edit es)
     moved_to e is grows = let same : e ≡ edit = cc in subst (λ (x : Edit). GrowsNear (suc n) asked es (after_edit x es)) same grows
 
-    by_case : Settled n at entries step old new changes (Some edit) → GrowsNear (suc n) asked es (after_edit edit es)
+    by_case : Rebalanced n at entries step old new changes (Some edit) → GrowsNear (suc n) asked es (after_edit edit es)
     by_case (inl f) = let clash : Some edit ≡ None = f.nothing in absurd (cc)
     by_case (inr (inl s)) =
         let parts = halves n below s.front s.back (subst (IsNearPlace n below) s.cut near) s.front_part s.back_part in

@@ -1,4 +1,4 @@
--- Which addresses are read beside the way to a key.
+-- Which addresses are read beside the path to a key.
 use Rattle.std.proofs.Common.{◌≡◌, ◌≢◌, ◌⊎◌, ℕ, zero, suc, ◌<◌, ◌≤◌, List, [], ◌∷◌, ◌++◌, length, get_or, Option, refl, sym, ap, subst, ◌∙◌, inl, inr, arith}
 use Rattle.std.specs.List.{Contains}
 use Rattle.std.proofs.lemmas.Bool.{cases_eq}
@@ -7,37 +7,37 @@ use Rattle.sea_base.proofs.Spaces.{agrees_before, only_read-refl}
 use Rattle.sea_node.specs.Entries.{Entry}
 use Rattle.sea_node.specs.Node.{IsNode}
 use Rattle.sea_tree.specs.declared.edit.Edit.{Edit}
-use Rattle.sea_tree.specs.declared.way.Step.{Step}
+use Rattle.sea_tree.specs.declared.path.Step.{Step}
 use Rattle.sea_tree.specs.Tree.{Bounds, root_bounds, IsAddress}
 use Rattle.sea_tree.specs.Breaks.{HasNode, Child}
 use Rattle.sea_tree.specs.Does.{Change, Does}
 use Rattle.sea_tree.specs.Mending.{after_edit}
 use Rattle.sea_tree.specs.Place.{Splits}
-use Rattle.sea_tree.specs.Reads.{IsChildOf, OnWay, BelowWay, IsOnWay, IsNearWay, ReadsWay, ReadsNear, ReadsChild, ReadsRootChild, ReadsNothing}
-use Rattle.sea_tree.specs.Way.{StepsDown, Descends}
+use Rattle.sea_tree.specs.Reads.{IsChildOf, OnPath, BelowPath, IsOnPath, IsNearPath, ReadsPath, ReadsNear, ReadsChild, ReadsRootChild, ReadsNothing}
+use Rattle.sea_tree.specs.Path.{StepsDown, Descends}
 use Rattle.sea_tree.proofs.Climbs.{Climbs, step_above}
 use Rattle.sea_tree.proofs.Doing.{Does-agrees}
 use Rattle.sea_tree.proofs.Holding.{Contains-head, Contains-cases, Contains-nil}
 use Rattle.sea_tree.proofs.Lone.{lone_edit}
-use Rattle.sea_tree.proofs.Settles.{at_index}
+use Rattle.sea_tree.proofs.Rebalances.{at_index}
 use Rattle.sea_tree.proofs.Touched.{child_in}
-use Rattle.sea_tree.proofs.Ways.{laid_same, Descends-laid, Descends-push, Descends-same, AreKnown-push, first_node}
+use Rattle.sea_tree.proofs.Paths.{laid_same, Descends-laid, Descends-push, Descends-same, AreKnown-push, first_node}
 use Rattle.sea_tree.proofs.Walks.{one_store}
-use Rattle.sea_tree.proofs.WaySteps.{IsStep}
+use Rattle.sea_tree.proofs.PathSteps.{IsStep}
 
-below_way : (s : Store) (level at : ℕ) (bounds : Bounds) (steps : List Step) (key : List ℕ) (n q : ℕ) (b : Bounds) (es : List Entry) (c : ℕ) → Descends s level at bounds steps key (suc n) q b → HasNode s (suc n) q b es → IsChildOf es c → BelowWay s key level at bounds c
-below_way s zero at bounds [] key n q b es c d node child = absurd (omega (arith, d.0))
-below_way s (suc level) at bounds [] key n q b es c d node child =
+below_path : (s : Store) (level at : ℕ) (bounds : Bounds) (steps : List Step) (key : List ℕ) (n q : ℕ) (b : Bounds) (es : List Entry) (c : ℕ) → Descends s level at bounds steps key (suc n) q b → HasNode s (suc n) q b es → IsChildOf es c → BelowPath s key level at bounds c
+below_path s zero at bounds [] key n q b es c d node child = absurd (omega (arith, d.0))
+below_path s (suc level) at bounds [] key n q b es c d node child =
     let levels : level ≡ n = omega (arith, d.0) in
     let here : HasNode s (suc level) at bounds es = subst (λ (l : ℕ). HasNode s (suc l) at bounds es) (sym levels) (subst (λ (x : ℕ). HasNode s (suc n) x bounds es) (sym d.1) (subst (λ (e : Bounds). HasNode s (suc n) q e es) (sym d.2) node)) in
     (es, here, inl child)
-below_way s zero at bounds (step ∷ steps) key n q b es c d node child = absurd d
-below_way s (suc level) at bounds (step ∷ steps) key n q b es c d node child =
+below_path s zero at bounds (step ∷ steps) key n q b es c d node child = absurd d
+below_path s (suc level) at bounds (step ∷ steps) key n q b es c d node child =
     let beside : Child step.node.entries bounds.upper d.2.before d.2.after d.0 d.1 = record { entry = d.2.entry; split = d.2.split.split; address = d.2.address; bounds_are = d.2.below_is } in
-    (step.node.entries, d.2.node, inr (d.2.before, d.2.after, d.0, d.1, beside, d.2.leads, below_way s level d.0 d.1 steps key n q b es c d.3 node child))
+    (step.node.entries, d.2.node, inr (d.2.before, d.2.after, d.0, d.1, beside, d.2.leads, below_path s level d.0 d.1 steps key n q b es c d.3 node child))
 
--- what is on the way is near it
-on_then_near : (s : Store) (key : List ℕ) (level at : ℕ) (bounds : Bounds) (q : ℕ) → OnWay s key level at bounds q → (q ≡ at) ⊎ BelowWay s key level at bounds q
+-- what is on the path is near it
+on_then_near : (s : Store) (key : List ℕ) (level at : ℕ) (bounds : Bounds) (q : ℕ) → OnPath s key level at bounds q → (q ≡ at) ⊎ BelowPath s key level at bounds q
 on_then_near s key zero at bounds q same = inl same
 on_then_near s key (suc level) at bounds q (inl same) = inl same
 on_then_near s key (suc level) at bounds q (inr on) =
@@ -51,13 +51,13 @@ on_then_near s key (suc level) at bounds q (inr on) =
       ],
     )
 
-pub way_near : (root : ℕ) (key : List ℕ) (old new : Seen) → ReadsWay root key old new → ReadsNear root key old new
-way_near root key old new reads at = elim (reads at) [
+pub path_near : (root : ℕ) (key : List ℕ) (old new : Seen) → ReadsPath root key old new → ReadsNear root key old new
+path_near root key old new reads at = elim (reads at) [
   | inl same ↦ inl same
   | inr on ↦ inr (λ store agrees. near (laid old store) (on store agrees))
 ]
   where
-    near : (s : Store) → IsOnWay s key root at → IsNearWay s key root at
+    near : (s : Store) → IsOnPath s key root at → IsNearPath s key root at
     near s (inl same) = inl same
     near s (inr on) = elim (on_then_near s key on.0 root root_bounds at on.2) [ inl same ↦ inl same | inr below ↦ inr (on.0, on.1, below) ]
 
@@ -100,7 +100,7 @@ unread_here s q = refl
 -- ---- a climb
 
 module _ (begun now new : Seen) (root : ℕ) (key : List ℕ) (value : Option (List ℕ)) (sound : IsSound begun) where
-  -- a node of the way in hand: its children are near the way
+  -- a node of the path in hand: its children are near the path
   pub climb_near : (steps init : List Step) (step : Step) (level at : ℕ) (entries after : List Entry) (changes : List Change) → steps ≡ init ++ step ∷ [] → Climbs begun now root key value steps level at entries after changes → Does [] now new
       → ReadsNear root key begun now → ReadsChild step.node.entries now new → ReadsNear root key begun new
   climb_near steps init step level at entries after changes is climbs0 goes before reads q = elim (reads q) [
@@ -108,14 +108,14 @@ module _ (begun now new : Seen) (root : ℕ) (key : List ℕ) (value : Option (L
     | inr child ↦ inr (λ store agrees. near_child store agrees child)
   ]
     where
-      near_child : (store : Store) → Agrees store new → IsChildOf step.node.entries q → IsNearWay (laid begun store) key root q
+      near_child : (store : Store) → Agrees store new → IsChildOf step.node.entries q → IsNearPath (laid begun store) key root q
       near_child store agrees child =
           let climbs : Climbs begun now root key value (init ++ step ∷ []) level at entries after changes = subst (λ (l : List Step). Climbs begun now root key value l level at entries after changes) is climbs0 in
           let agrees_begun : Agrees store begun = Does-agrees [] climbs.reads store (Does-agrees [] goes store agrees) in
           let above = step_above begun root key init step level at climbs.bounds entries climbs.down in
           let there = Descends-laid begun begun store root key init (suc level) step.at.0 above.asked step.node.entries (only_read-refl begun) sound agrees_begun above.comes in
           let top = first_node (laid begun store) above.comes.top root root_bounds init key (suc level) step.at.0 above.asked step.node.entries there.0 there.1 in
-          inr (above.comes.top, (top.0, top.1), below_way (laid begun store) above.comes.top root root_bounds init key level step.at.0 above.asked step.node.entries q there.0 there.1 child)
+          inr (above.comes.top, (top.0, top.1), below_path (laid begun store) above.comes.top root root_bounds init key level step.at.0 above.asked step.node.entries q there.0 there.1 child)
 
   -- and so are those of the root
   pub root_near : (level : ℕ) (entries : List Entry) → ((store : Store) → Agrees store new → HasNode (laid begun store) (suc level) root root_bounds entries) → Does [] now new → ReadsNear root key begun now → ReadsChild entries now new → ReadsNear root key begun new
@@ -143,14 +143,14 @@ climb_root_near begun now new root key value sound steps (suc level) at entries 
 
 -- ---- a whole call
 
--- the way is read, then what is beside it, and then nothing
-pub run_near : (root : ℕ) (key : List ℕ) (old mid planned new : Seen) → OnlyRead old mid → ReadsWay root key old mid → Does [] mid planned → ReadsNear root key mid planned → (changes : List Change) → Does changes planned new → ReadsNothing planned new → ReadsNear root key old new
-run_near root key old mid planned new reads way plans near changes writes nothing q = elim (near q) [
-  | inl same ↦ elim (way_near root key old mid way q) [
+-- the path is read, then what is beside it, and then nothing
+pub run_near : (root : ℕ) (key : List ℕ) (old mid planned new : Seen) → OnlyRead old mid → ReadsPath root key old mid → Does [] mid planned → ReadsNear root key mid planned → (changes : List Change) → Does changes planned new → ReadsNothing planned new → ReadsNear root key old new
+run_near root key old mid planned new reads path plans near changes writes nothing q = elim (near q) [
+  | inl same ↦ elim (path_near root key old mid path q) [
     | inl was ↦ inl (nothing q ∙ same ∙ was)
     | inr on ↦ inr (λ store agrees. on store (Does-agrees [] plans store (Does-agrees changes writes store agrees)))
   ]
-  | inr beside ↦ inr (λ store agrees. subst (λ (s : Store). IsNearWay s key root q) (one_store reads store) (beside store (Does-agrees changes writes store agrees)))
+  | inr beside ↦ inr (λ store agrees. subst (λ (s : Store). IsNearPath s key root q) (one_store reads store) (beside store (Does-agrees changes writes store agrees)))
 ]
 
 pub none_near : (root : ℕ) (key : List ℕ) (s : Seen) → ReadsNear root key s s

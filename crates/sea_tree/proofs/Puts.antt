@@ -17,13 +17,13 @@ use Rattle.sea_tree.specs.declared.fault.TreeFault.TheVariants.{Space, Broken}
 use Rattle.sea_tree.specs.Tree.{root_bounds, IsNodeOf}
 use Rattle.sea_tree.specs.Content.{HasContent}
 use Rattle.sea_tree.specs.Breaks.{Breaks, IsFull, FillsFewer}
-use Rattle.sea_tree.specs.Calls.{Meets, Becomes, ChangesOwn, IsWayFault, IsChangeFault, IsPlanFault, IsUnchanged, IsWholeWay, IsOfSpace}
+use Rattle.sea_tree.specs.Calls.{Meets, Becomes, ChangesOwn, IsPathFault, IsChangeFault, IsPlanFault, IsUnchanged, IsWholePath, IsOfSpace}
 use Rattle.sea_tree.specs.Does.{Change, overlaid, is_among, Does, ChangesAtMost}
 use Rattle.sea_tree.specs.Changing.{Changed, changed_content, IsPlanned, TouchesOwn}
 use Rattle.sea_tree.proofs.Apart.{IsNodeOf-root, few_levels}
 use Rattle.sea_tree.proofs.Counting.{full_refuted}
 use Rattle.sea_tree.proofs.Doing.{Does-agrees, Does-laid, overlaid-same, ChangesAtMost-read, ChangesAtMost-then}
-use Rattle.sea_tree.proofs.Holding.{whole_tree, breaks_from_way}
+use Rattle.sea_tree.proofs.Holding.{whole_tree, breaks_from_path}
 use Rattle.sea_tree.proofs.MendRoot.{planted}
 use Rattle.sea_tree.proofs.MendSides.{puts_one}
 use Rattle.sea_tree.proofs.Mending.{becomes_changed}
@@ -32,11 +32,11 @@ use Rattle.sea_tree.proofs.Walks.{one_store}
 
 -- ---- faults
 
-pub way_fault : (root : ℕ) (key : List ℕ) (old new : Seen) (fault : TreeFault) → IsWayFault root key old new fault → IsChangeFault root key old new fault
-way_fault root key old new (Space fault) cause = tt
-way_fault root key old new (Broken at) found = inl found
+pub path_fault : (root : ℕ) (key : List ℕ) (old new : Seen) (fault : TreeFault) → IsPathFault root key old new fault → IsChangeFault root key old new fault
+path_fault root key old new (Space fault) cause = tt
+path_fault root key old new (Broken at) found = inl found
 
-pub fault_since : (root : ℕ) (key : List ℕ) (old mid new : Seen) → OnlyRead old mid → IsWholeWay root key old mid → (fault : TreeFault) → IsUnchanged mid new fault → IsPlanFault root mid new fault → IsChangeFault root key old new fault
+pub fault_since : (root : ℕ) (key : List ℕ) (old mid new : Seen) → OnlyRead old mid → IsWholePath root key old mid → (fault : TreeFault) → IsUnchanged mid new fault → IsPlanFault root mid new fault → IsChangeFault root key old new fault
 fault_since root key old mid new reads whole (Space fault) same cause = tt
 fault_since root key old mid new reads whole (Broken at) same found = inr (
   (λ store q agrees. whole store q (Does-agrees [] same store agrees)),
@@ -47,7 +47,7 @@ fault_since root key old mid new reads whole (Broken at) same found = inr (
 pub of_space : (root : ℕ) (key : List ℕ) (old new : Seen) (fault : TreeFault) → IsChangeFault root key old new fault → (store : Store) (content : Values) → Meets store root old new content → FillsFewer (laid old store) (2 ^ 25) → IsOfSpace fault
 of_space root key old new (Space fault) cause store content meets few = tt
 of_space root key old new (Broken at) (inl breaks) store content meets few =
-    absurd (whole_tree (laid old store) root at.0 meets.content.tree (breaks_from_way (laid old store) key root at.0 (breaks store meets.agrees)))
+    absurd (whole_tree (laid old store) root at.0 meets.content.tree (breaks_from_path (laid old store) key root at.0 (breaks store meets.agrees)))
 of_space root key old new (Broken at) (inr found) store content meets few = by (found.1 store meets.agrees)
   where
     by : Breaks (laid old store) root at.0 ⊎ ((at.0 ≡ root) × IsFull (laid old store) root) → ⊥
@@ -145,7 +145,7 @@ pub run_few : (old mid planned new : Seen) (changes : List Change) (count : ℕ)
 run_few old mid planned new changes count run le few =
     fewer (count + (0 + 0)) 17 (omega (arith, le)) (ChangesAtMost-then (0 + 0) count (ChangesAtMost-then 0 0 (ChangesAtMost-read run.reads) (nothing_few run.plans)) few)
 
-pub run_whole : (root : ℕ) (key : List ℕ) (old mid planned new : Seen) (changes : List Change) → Run old mid planned new changes → IsWholeWay root key old mid → IsWholeWay root key old new
+pub run_whole : (root : ℕ) (key : List ℕ) (old mid planned new : Seen) (changes : List Change) → Run old mid planned new changes → IsWholePath root key old mid → IsWholePath root key old new
 run_whole root key old mid planned new changes run whole store at agrees = whole store at (Does-agrees [] run.plans store (Does-agrees changes run.writes store agrees))
 
 pub run_agrees : (old mid planned new : Seen) (changes : List Change) → Run old mid planned new changes → (store : Store) → Agrees store new → Agrees store mid

@@ -1,18 +1,18 @@
--- Which addresses a change of one pair writes: those of the way and of its neighbours, and what was given.
+-- Which addresses a change of one pair writes: those of the path and of its neighbours, and what was given.
 use Rattle.std.proofs.Common.{◌≡◌, ◌⊎◌, ℕ, zero, suc, ◌+◌, ◌<◌, ◌≤◌, List, [], ◌∷◌, ◌++◌, Bool, true, false, ◌==◌, ◌||◌, Option, Some, None, refl, sym, ◌∙◌, ap, subst, inl, inr, arith}
 use Rattle.std.specs.List.{Contains}
 use Rattle.std.proofs.lemmas.Bool.{eqb-true, true≢false}
 use Rattle.sea_base.specs.Space.{Store, Seen, Agrees, laid}
 use Rattle.sea_node.specs.Entries.{Entry}
 use Rattle.sea_tree.specs.declared.edit.Edit.{Edit}
-use Rattle.sea_tree.specs.declared.way.Step.{Step}
+use Rattle.sea_tree.specs.declared.path.Step.{Step}
 use Rattle.sea_tree.specs.Tree.{Bounds, NodeAt, root_bounds, IsAddress, IsBelowNode, IsNodeOf}
 use Rattle.sea_tree.specs.Breaks.{HasNode}
 use Rattle.sea_tree.specs.Does.{Change, is_among}
 use Rattle.sea_tree.specs.Reads.{IsChildOf}
-use Rattle.sea_tree.specs.Changing.{RootSettled}
-use Rattle.sea_tree.specs.Settled.{Settled, Neighbours}
-use Rattle.sea_tree.specs.Way.{Descends}
+use Rattle.sea_tree.specs.Changing.{RootRebalanced}
+use Rattle.sea_tree.specs.Rebalanced.{Rebalanced, Neighbours}
+use Rattle.sea_tree.specs.Path.{Descends}
 use Rattle.sea_tree.proofs.Doing.{is_among-append}
 use Rattle.sea_tree.proofs.Holding.{Contains-middle, Contains-later, Contains-head}
 
@@ -47,7 +47,7 @@ among_append later first q e = either_true (is_among later q) (is_among first q)
 pub child_in : (entries before : List Entry) (entry : Entry) (after : List Entry) (q : ℕ) → entries ≡ before ++ entry ∷ after → IsAddress entry.1 q → IsChildOf entries q
 child_in entries before entry after q split address = (entry, subst (λ (es : List Entry). Contains es entry) (sym split) (Contains-middle before entry after), address)
 
--- settling a node writes children of its parent and what was given
+-- rebalancing a node writes children of its parent and what was given
 module _ (level at : ℕ) (entries : List Entry) (parent : Step) (old new : Seen) (own : IsChildOf parent.node.entries at) (q : ℕ) where
   abbrev Own : Type 0
   Own = IsChildOf parent.node.entries q ⊎ ((old.next ≤ q) × (q < new.next))
@@ -66,17 +66,17 @@ module _ (level at : ℕ) (entries : List Entry) (parent : Step) (old new : Seen
   beside_own pair (inr same) =
       inl (subst (IsChildOf parent.node.entries) (sym same) (child_in parent.node.entries pair.before pair.one (pair.two ∷ pair.after) pair.one_at pair.split pair.one_address))
 
-  pub settled_touches : (changes : List Change) (left : Option Edit) → Settled level at entries parent old new changes left → is_among changes q ≡ true → Own
-  settled_touches changes left (inl f) e = at_own (among_one f.planned q e)
-  settled_touches changes left (inr (inl s)) e = elim (among_two s.planned q e) [
+  pub rebalanced_touches : (changes : List Change) (left : Option Edit) → Rebalanced level at entries parent old new changes left → is_among changes q ≡ true → Own
+  rebalanced_touches changes left (inl f) e = at_own (among_one f.planned q e)
+  rebalanced_touches changes left (inr (inl s)) e = elim (among_two s.planned q e) [
     | inl fresh ↦ inr (omega (arith, fresh), omega (arith, fresh, s.next))
     | inr same ↦ at_own same
   ]
-  settled_touches changes left (inr (inr (inl j))) e = beside_own j.pair (among_two j.planned q e)
-  settled_touches changes left (inr (inr (inr c))) e = beside_own c.pair (among_two c.planned q e)
+  rebalanced_touches changes left (inr (inr (inl j))) e = beside_own j.pair (among_two j.planned q e)
+  rebalanced_touches changes left (inr (inr (inr c))) e = beside_own c.pair (among_two c.planned q e)
 
--- settling a root writes it, what was given, or its one child
-pub root_touches : (level root : ℕ) (after : List Entry) (old new : Seen) (before changes : List Change) → RootSettled level root after old new before changes → (q : ℕ) → is_among changes q ≡ true
+-- rebalancing a root writes it, what was given, or its one child
+pub root_touches : (level root : ℕ) (after : List Entry) (old new : Seen) (before changes : List Change) → RootRebalanced level root after old new before changes → (q : ℕ) → is_among changes q ≡ true
     → (q ≡ root) ⊎ (((old.next ≤ q) × (q < new.next)) ⊎ ((only : Entry) × (1 ≤ level) × (after ≡ only ∷ []) × IsAddress only.1 q))
 root_touches level root after old new before changes (inl f) q e = inl (among_one f.planned q e)
 root_touches level root after old new before changes (inr (inl s)) q e = elim (among_three s.planned q e) [
@@ -94,7 +94,7 @@ pub at_top : (store : Store) (level at : ℕ) → IsBelowNode store level at at
 at_top store zero at = refl
 at_top store (suc level) at = inl refl
 
--- a child of a node at the end of a way is a node of the tree
+-- a child of a node at the end of a path is a node of the tree
 pub child_below : (s : Store) (level at : ℕ) (bounds : Bounds) (steps : List Step) (key : List ℕ) (n q : ℕ) (b : Bounds) (es : List Entry) (c : ℕ) → Descends s level at bounds steps key (suc n) q b → NodeAt s q (suc n) es → IsChildOf es c → IsBelowNode s level at c
 child_below s zero at bounds [] key n q b es c d node child = absurd (omega (arith, d.0))
 child_below s (suc level) at bounds [] key n q b es c d node child =

@@ -24,7 +24,7 @@ use Rattle.sea_tree.specs.Walk.{addresses, Adds, IsUnderFault}
 use Rattle.sea_tree.proofs.Holding.{Holds-node, subtree_held, keys_held, nodes_of_root, no_node, Contains-nil, Contains-head, Contains-cases}
 use Rattle.sea_tree.proofs.Contents.{same_pairs, entries_rise, get_contains, pairs_of_root, only_empty, HasContent-empty}
 use Rattle.sea_tree.proofs.Apart.{distinct-nil, Holds-distinct, IsNodeOf-root, HasContent-beside, few_levels}
-use Rattle.sea_tree.proofs.Ways.{HasNode-same, IsBroken-same, laid_same}
+use Rattle.sea_tree.proofs.Paths.{HasNode-same, IsBroken-same, laid_same}
 use Rattle.sea_tree.proofs.Touched.{either_true}
 use Rattle.sea_tree.proofs.Walks.{one_store, under_first}
 

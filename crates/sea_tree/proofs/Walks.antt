@@ -16,7 +16,7 @@ use Rattle.sea_tree.specs.Subtrees.{AllBelow, Holds, Below}
 use Rattle.sea_tree.specs.Walk.{addresses, Adds, IsUnderFault}
 use Rattle.sea_tree.proofs.Holding.{AllBelow-append, Holds-node, each_below}
 use Rattle.sea_tree.proofs.Frames.{AllBelow-one}
-use Rattle.sea_tree.proofs.Ways.{HasNode-same, IsBroken-same, laid_same}
+use Rattle.sea_tree.proofs.Paths.{HasNode-same, IsBroken-same, laid_same}
 
 -- reads leave what is laid over a store
 pub one_store : {old new : Seen} → OnlyRead old new → (store : Store) → laid new store ≡ laid old store

@@ -13,37 +13,46 @@ use Rattle.sea_tree.specs.declared.fault.TreeFault.TheVariants.{Space, Broken}
 use Rattle.sea_tree.specs.Tree.{IsTree, IsSubtree, root_bounds, IsNodeOf, AreApart, IsWithin}
 use Rattle.sea_tree.specs.Content.{HasContent}
 use Rattle.sea_tree.specs.Does.{Does}
-use Rattle.sea_tree.specs.Breaks.{Breaks, IsFirstBreak, IsBreakOnWay, IsFull}
+use Rattle.sea_tree.specs.Breaks.{Breaks, IsFirstBreak, IsBreakOnPath, IsFull}
 
--- A store that a call speaks of: it agrees with what was read as the call ends; with the changes made
--- before the call laid over it, the tree is well formed and has this content; and no address that the call
--- allocated is filled.
+-- A store that a call speaks of: it agrees with what was read as the call ends; with the changes
+-- made before the call laid over it, the tree is well formed and has this content; and no address
+-- that the call allocated is filled.
 pub record Meets (store : Store) (root : ℕ) (old new : Seen) (before : Values) : Type 0 where
   pub agrees : Agrees store new
   pub content : HasContent (laid old store) root before
   pub fresh : (at : ℕ) → old.next ≤ at → at < new.next → laid old store at ≡ None
 
--- With the changes of the call laid over it, the tree has the new content; nothing else changed but its root
--- and what the call allocated, and the tree has no other node than its own old ones and these. Of its old
--- nodes, its root and these, those that are filled are its nodes, so nothing is left over; and each address
--- that was allocated is one. The tree has at most 8 levels. Another tree that shares no node with this one,
--- and whose root wasn't allocated, keeps its content.
+-- With the changes of the call laid over it, the tree has the new content; nothing else changed but
+-- its root and what the call allocated, and the tree has no other node than its own old ones and
+-- these. Of its old nodes, its root and these, those that are filled are its nodes, so nothing is
+-- left over; and each address that was allocated is one. The tree has at most 8 levels. Another
+-- tree that shares no node with this one, and whose root wasn't allocated, keeps its content.
 pub record Becomes (store : Store) (root : ℕ) (old new : Seen) (after : Values) : Type 0 where
   pub content : HasContent (laid new store) root after
-  pub elsewhere : (at : ℕ) → at ≢ root → (IsNodeOf (laid old store) root at → ⊥) → (at < old.next) ⊎ (new.next ≤ at) → laid new store at ≡ laid old store at
-  pub nodes : (at : ℕ) → IsNodeOf (laid new store) root at → (at ≡ root) ⊎ (IsNodeOf (laid old store) root at ⊎ ((old.next ≤ at) × (at < new.next)))
-  pub left : (at : ℕ) → (at ≡ root) ⊎ (IsNodeOf (laid old store) root at ⊎ ((old.next ≤ at) × (at < new.next))) → laid new store at ≢ None → IsNodeOf (laid new store) root at
+  pub elsewhere : (at : ℕ) → at ≢ root → (IsNodeOf (laid old store) root at → ⊥)
+      → (at < old.next) ⊎ (new.next ≤ at) → laid new store at ≡ laid old store at
+  pub nodes : (at : ℕ) → IsNodeOf (laid new store) root at
+      → (at ≡ root) ⊎ (IsNodeOf (laid old store) root at ⊎ ((old.next ≤ at) × (at < new.next)))
+  pub left : (at : ℕ)
+      → (at ≡ root) ⊎ (IsNodeOf (laid old store) root at ⊎ ((old.next ≤ at) × (at < new.next)))
+      → laid new store at ≢ None → IsNodeOf (laid new store) root at
   pub used : (at : ℕ) → old.next ≤ at → at < new.next → IsNodeOf (laid new store) root at
   pub levels : (level : ℕ) → IsSubtree (laid new store) level root root_bounds → level ≤ 7
-  pub others : (other : ℕ) (kept : Values) → other ≢ root → HasContent (laid old store) other kept → AreApart (laid old store) root other → (other < old.next) ⊎ (new.next ≤ other) → HasContent (laid new store) other kept
+  pub others : (other : ℕ) (kept : Values) → other ≢ root → HasContent (laid old store) other kept
+      → AreApart (laid old store) root other → (other < old.next) ⊎ (new.next ≤ other)
+      → HasContent (laid new store) other kept
 
--- Nothing was changed but the tree's own: its root, its nodes before the call, and what the call allocated.
+-- Nothing was changed but the tree's own: its root, its nodes before the call, and what the call
+-- allocated.
 abbrev pub ChangesOwn : ℕ → Seen → Seen → Type 0
 ChangesOwn root old new =
     (store : Store) (at : ℕ) → Agrees store new → new.changed at ≡ true
-    → (old.changed at ≡ true) ⊎ ((at ≡ root) ⊎ (IsNodeOf (laid old store) root at ⊎ ((old.next ≤ at) × (at < new.next))))
+    → (old.changed at ≡ true)
+    ⊎ ((at ≡ root) ⊎ (IsNodeOf (laid old store) root at ⊎ ((old.next ≤ at) × (at < new.next))))
 
--- The same of a call that drops a tree: it changed the nodes alone, so nothing where the tree was empty.
+-- The same of a call that drops a tree: it changed the nodes alone, so nothing where the tree was
+-- empty.
 abbrev pub DropsOwn : ℕ → Seen → Seen → Type 0
 DropsOwn root old new =
     (store : Store) (at : ℕ) → Agrees store new → new.changed at ≡ true
@@ -56,58 +65,67 @@ pairs_above (Some bound) content = filter (λ e. is_lt (key_order bound e.0)) (m
 
 -- why a call that reads all nodes, parents first, ended with a fault
 abbrev pub IsWalkFault : ℕ → Seen → Seen → TreeFault → Type 0
-IsWalkFault root old new = Blames (λ at. (store : Store) → Agrees store new → IsFirstBreak (laid old store) root at)
+IsWalkFault root old new =
+    Blames (λ at. (store : Store) → Agrees store new → IsFirstBreak (laid old store) root at)
 
--- why a call that reads the way to a key did
-abbrev pub IsWayFault : ℕ → List ℕ → Seen → Seen → TreeFault → Type 0
-IsWayFault root key old new = Blames (λ at. (store : Store) → Agrees store new → IsBreakOnWay (laid old store) key root at)
+-- why a call that reads the path to a key did
+abbrev pub IsPathFault : ℕ → List ℕ → Seen → Seen → TreeFault → Type 0
+IsPathFault root key old new =
+    Blames (λ at. (store : Store) → Agrees store new → IsBreakOnPath (laid old store) key root at)
 
--- the way to a key is whole
-abbrev pub IsWholeWay : ℕ → List ℕ → Seen → Seen → Type 0
-IsWholeWay root key old new =
-    (store : Store) (at : ℕ) → Agrees store new → IsBreakOnWay (laid old store) key root at → ⊥
+-- the path to a key is whole
+abbrev pub IsWholePath : ℕ → List ℕ → Seen → Seen → Type 0
+IsWholePath root key old new =
+    (store : Store) (at : ℕ) → Agrees store new → IsBreakOnPath (laid old store) key root at → ⊥
 
--- the ways to the keys from one on, up to another, are whole
-abbrev pub AreWholeWays : ℕ → List ℕ → Option (List ℕ) → Seen → Seen → Type 0
-AreWholeWays root from upto old new = (key : List ℕ) → IsNotAbove from key → IsWithin key upto → IsWholeWay root key old new
+-- the paths to the keys from one on, up to another, are whole
+abbrev pub AreWholePaths : ℕ → List ℕ → Option (List ℕ) → Seen → Seen → Type 0
+AreWholePaths root from upto old new =
+    (key : List ℕ) → IsNotAbove from key → IsWithin key upto → IsWholePath root key old new
 
--- Why a call that reads leaves from a key on did: the way to some key breaks, and those to the keys before it are
--- whole.
+-- Why a call that reads leaves from a key on did: the path to some key breaks, and those to the
+-- keys before it are whole.
 abbrev pub IsRangeFault : ℕ → List ℕ → Seen → Seen → TreeFault → Type 0
 IsRangeFault root from old new =
-    Blames (λ at. (key : List ℕ) × IsNotAbove from key × AreWholeWays root from (Some key) old new
-    × ((store : Store) → Agrees store new → IsBreakOnWay (laid old store) key root at))
+    Blames (λ at. (key : List ℕ) × IsNotAbove from key × AreWholePaths root from (Some key) old new
+    × ((store : Store) → Agrees store new → IsBreakOnPath (laid old store) key root at))
 
--- Such a call has found the ways whole, up to all keys, or to behind the last of as many pairs as were wanted.
-pub record WalksWhole (root : ℕ) (from : List ℕ) (limit : ℕ) (found : List Entry) (old new : Seen) : Type 0 where
+-- Such a call has found the paths whole, up to all keys, or to behind the last of as many pairs as
+-- were wanted.
+pub record WalksWhole (root : ℕ) (from : List ℕ) (limit : ℕ) (found : List Entry)
+    (old new : Seen) : Type 0 where
   pub upto : Option (List ℕ)
-  pub whole : AreWholeWays root from upto old new
+  pub whole : AreWholePaths root from upto old new
   pub below : All (λ e. IsWithin e.0 upto) found
   pub ends : (upto ≡ None) ⊎ (length found ≡ limit)
 
--- why a change was not planned: a neighbour of the way breaks, or the tree can't grow
+-- why a change was not planned: a neighbour of the path breaks, or the tree can't grow
 abbrev pub IsPlanFault : ℕ → Seen → Seen → TreeFault → Type 0
 IsPlanFault root old new =
-    Blames (λ at. (store : Store) → Agrees store new → Breaks (laid old store) root at ⊎ ((at ≡ root) × IsFull (laid old store) root))
+    Blames
+    (λ at. (store : Store) → Agrees store new
+    → Breaks (laid old store) root at ⊎ ((at ≡ root) × IsFull (laid old store) root))
 
--- Why a call that changes a pair ended with a fault: this is the first break on the way to the key; or that is
--- whole, and a neighbour of it breaks, or the tree can't grow.
+-- Why a call that changes a pair ended with a fault: this is the first break on the path to the
+-- key; or that is whole, and a neighbour of it breaks, or the tree can't grow.
 abbrev pub IsChangeFault : ℕ → List ℕ → Seen → Seen → TreeFault → Type 0
 IsChangeFault root key old new =
-    Blames (λ at. ((store : Store) → Agrees store new → IsBreakOnWay (laid old store) key root at)
-    ⊎ (IsWholeWay root key old new
-    × ((store : Store) → Agrees store new → Breaks (laid old store) root at ⊎ ((at ≡ root) × IsFull (laid old store) root))))
+    Blames (λ at. ((store : Store) → Agrees store new → IsBreakOnPath (laid old store) key root at)
+    ⊎ (IsWholePath root key old new
+    × ((store : Store) → Agrees store new
+    → Breaks (laid old store) root at ⊎ ((at ≡ root) × IsFull (laid old store) root))))
 
--- What a walk of a whole tree tells: it is well formed, with so many pairs, by a count that stands still at
--- 2^64 - 1, and these are its nodes, each once.
+-- What a walk of a whole tree tells: it is well formed, with so many pairs, by a count that stands
+-- still at 2^64 - 1, and these are its nodes, each once.
 pub record IsWalked (store : Store) (root pairs : ℕ) (walked : List ℕ) : Type 0 where
   pub tree : IsTree store root
-  pub counted : (content : Values) → HasContent store root content → pairs ≡ min (map.len content) (2 ^ 64 - 1)
+  pub counted : (content : Values) → HasContent store root content
+      → pairs ≡ min (map.len content) (2 ^ 64 - 1)
   pub once : AllPairs ◌≢◌ walked
   pub nodes : (at : ℕ) → Contains walked at ↔ IsNodeOf store root at
 
--- A call that ended with this fault has changed nothing: it has read, and may have been given addresses. Want
--- of memory alone may come behind the first change.
+-- A call that ended with this fault has changed nothing: it has read, and may have been given
+-- addresses. Want of memory alone may come behind the first change.
 abbrev pub IsUnchanged : Seen → Seen → TreeFault → Type 0
 IsUnchanged old new (Space NoMemory) = Unit {0}
 IsUnchanged old new (Space DeviceFault) = Does [] old new
@@ -125,6 +143,7 @@ space_fault (Ok answer) = None
 space_fault (Err (Space fault)) = Some fault
 space_fault (Err (Broken at)) = None
 
--- why a root was not settled: it can't grow
-abbrev pub IsRootSettleFault : ℕ → Seen → Seen → TreeFault → Type 0
-IsRootSettleFault root old new = Blames (λ at. (at ≡ root) × ((store : Store) → Agrees store new → IsFull (laid old store) root))
+-- why a root was not rebalanced: it can't grow
+abbrev pub IsRootRebalanceFault : ℕ → Seen → Seen → TreeFault → Type 0
+IsRootRebalanceFault root old new =
+    Blames (λ at. (at ≡ root) × ((store : Store) → Agrees store new → IsFull (laid old store) root))

@@ -22,7 +22,8 @@ is_among (change ∷ changes) q = q == change.0 || is_among changes q
 pub record Does (changes : List Change) (old new : Seen) : Type 0 where
   pub reads : (at : ℕ) (found : Found) → old.reads at ≡ Some found → new.reads at ≡ Some found
   pub changed : (q : ℕ) → new.changed q ≡ (is_among changes q || old.changed q)
-  pub view : (q : ℕ) → (is_among changes q ≡ true) ⊎ IsKnown old q → new.view q ≡ overlaid changes old.view q
+  pub view : (q : ℕ) → (is_among changes q ≡ true) ⊎ IsKnown old q
+      → new.view q ≡ overlaid changes old.view q
   pub whole : (q : ℕ) → is_among changes q ≡ false → new.whole q ≡ old.whole q
   pub splices : (q : ℕ) → is_among changes q ≡ false → new.splices q ≡ old.splices q
   pub next : old.next ≤ new.next
@@ -36,15 +37,19 @@ pub record IsAsBefore (old new : Seen) (at : ℕ) : Type 0 where
 abbrev pub ChangesAtMost : ℕ → Seen → Seen → Type 0
 ChangesAtMost count old new =
     (places : List ℕ) × (length places ≤ count)
-    × ((at : ℕ) → Contains places at ⊎ (((new.changed at ≡ true) × (new.view at ≡ None)) ⊎ IsAsBefore old new at))
+    × ((at : ℕ)
+    → Contains places at ⊎ (((new.changed at ≡ true) × (new.view at ≡ None))
+    ⊎ IsAsBefore old new at))
 
 -- what was written was placed whole, or dropped
 abbrev pub ArePlaced : List Change → Seen → Type 0
 ArePlaced changes new = (q : ℕ) → is_among changes q ≡ true → new.splices q ≡ []
 
--- At most one splice was made, with at most so many bytes. What else was written was placed whole, or dropped.
+-- At most one splice was made, with at most so many bytes. What else was written was placed whole,
+-- or dropped.
 pub record SplicesOnce (bytes : ℕ) (old new : Seen) : Type 0 where
   pub place : ℕ
   pub others : (at : ℕ) → at ≢ place → (new.splices at ≡ old.splices at) ⊎ (new.splices at ≡ [])
   pub here : (new.splices place ≡ old.splices place) ⊎ ((new.splices place ≡ [])
-      ⊎ ((delta : Delta) × (new.splices place ≡ old.splices place ++ delta ∷ []) × (length delta.put ≤ bytes)))
+      ⊎ ((delta : Delta) × (new.splices place ≡ old.splices place ++ delta ∷ [])
+      × (length delta.put ≤ bytes)))

@@ -12,8 +12,8 @@ pub mod Place
 pub mod Plan
 pub mod Range
 pub mod Reads
-pub mod Settled
+pub mod Rebalanced
 pub mod Subtrees
 pub mod Tree
 pub mod Walk
-pub mod Way
+pub mod Path

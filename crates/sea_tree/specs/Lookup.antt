@@ -4,12 +4,14 @@ use Rattle.sea_base.specs.Space.{Seen}
 use Rattle.sea_node.specs.declared.lookup.Lookup.{Lookup}
 use Rattle.sea_node.specs.Entries.{Entry}
 use Rattle.sea_node.specs.Lookup.{Tells}
-use Rattle.sea_tree.specs.declared.way.Step.{Step}
+use Rattle.sea_tree.specs.declared.path.Step.{Step}
 use Rattle.sea_tree.specs.Tree.{Bounds}
-use Rattle.sea_tree.specs.Way.{ComesDown}
+use Rattle.sea_tree.specs.Path.{ComesDown}
 
--- What is in hand tells of the node that a key leads to, on a way down from a root, and of its upper bound.
-pub record LooksDown (seen : Seen) (root : ℕ) (key : List ℕ) (upper : Option (List ℕ)) (lookup : Lookup) : Type 0 where
+-- What is in hand tells of the node that a key leads to, on a path down from a root, and of its
+-- upper bound.
+pub record LooksDown (seen : Seen) (root : ℕ) (key : List ℕ) (upper : Option (List ℕ))
+    (lookup : Lookup) : Type 0 where
   pub steps : List Step
   pub at : ℕ
   pub bounds : Bounds

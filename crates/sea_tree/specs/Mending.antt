@@ -1,5 +1,5 @@
 -- How a tree is mended from a changed leaf up to its root.
-use Rattle.std.specs.Prelude.{◌≡◌, ◌⊎◌, ℕ, ◌<◌, ◌≤◌, List, map, length, Option, None, if◌then◌else◌}
+use Rattle.std.specs.Prelude.{◌≡◌, ◌⊎◌, ℕ, ◌+◌, ◌<◌, ◌≤◌, List, map, length, Option, None, if◌then◌else◌}
 use Rattle.std.specs.List.{All, Contains}
 use Rattle.std.specs.Ordering.{eq_by_cmp}
 use Rattle.sea_base.specs.Name.{IsName}
@@ -10,6 +10,9 @@ use Rattle.sea_tree.specs.declared.edit.Edit.TheVariants.{Pair, Moved}
 use Rattle.sea_tree.specs.Tree.{Bounds, IsWithin, first_key}
 use Rattle.sea_tree.specs.Breaks.{HasNode}
 use Rattle.sea_tree.specs.Subtrees.{Holds, Below}
+use Rattle.sea_node.specs.declared.node.TheConstants.{ROOM_BYTES}
+use Rattle.sea_node.specs.declared.reading.TheConstants.{ENTRY_BYTES, VALUE_BYTES}
+use Rattle.sea_tree.specs.declared.place.TheConstants.{LEAST_BYTES}
 
 -- the entries with another key in the place of one
 abbrev pub moved : List ℕ → List ℕ → List Entry → List Entry
@@ -20,18 +23,18 @@ abbrev pub after_edit : Edit → List Entry → List Entry
 after_edit (Pair key value) entries = edited key value entries
 after_edit (Moved from to) entries = moved from to entries
 
--- Entries that would be a node in its place but for their number and their size, which one more entry may
--- have made too great.
+-- Entries that would be a node in its place but for their number and their size, which one more
+-- entry may have made too great.
 pub record IsNearPlace (level : ℕ) (bounds : Bounds) (entries : List Entry) : Type 0 where
   pub level_fits : level ≤ 7
   pub children : 1 ≤ level → All (λ e. length e.1 ≡ 8) entries
   pub keys : All (λ e. IsName e.0) entries
-  pub values : All (λ e. length e.1 ≤ 1024) entries
+  pub values : All (λ e. length e.1 ≤ VALUE_BYTES) entries
   pub rising : IsRising entries
   pub lower : All (λ e. IsNotAbove bounds.lower e.0) entries
   pub upper : All (λ e. IsWithin e.0 bounds.upper) entries
   pub first : 1 ≤ level → (1 ≤ length entries) × (first_key entries ≡ bounds.lower)
-  pub near : size entries ≤ 5155
+  pub near : size entries ≤ ROOM_BYTES + ENTRY_BYTES
 
 -- What the call changes: the key, with the value that comes or none.
 pub record Aim : Type 0 where
@@ -44,9 +47,10 @@ pub record Aim : Type 0 where
 abbrev pub IsGiven : Aim → ℕ → Type 0
 IsGiven aim q = (aim.first ≤ q) × (q < aim.last)
 
--- Below a node the change is made, and the node isn't written yet: in the store as it was, the node had the
--- entries `before`; in the store as it is now, `after` are the entries that it is to have.
-pub record Mending (was is : Store) (level at : ℕ) (bounds : Bounds) (before after : List Entry) (aim : Aim) : Type 0 where
+-- Below a node the change is made, and the node isn't written yet: in the store as it was, the node
+-- had the entries `before`; in the store as it is now, `after` are the entries that it is to have.
+pub record Mending (was is : Store) (level at : ℕ) (bounds : Bounds) (before after : List Entry)
+    (aim : Aim) : Type 0 where
   pub old_pairs : List Entry
   pub new_pairs : List Entry
   pub old_nodes : List ℕ
@@ -63,8 +67,10 @@ pub record Mending (was is : Store) (level at : ℕ) (bounds : Bounds) (before a
   pub stays : (q : ℕ) → Contains old_nodes q → Contains new_nodes q ⊎ (is q ≡ None)
   pub uses : (q : ℕ) → IsGiven aim q → Contains new_nodes q
 
--- The change is made in the subtree from an address down, which may have another level now where it is a root.
-pub record Replaced (was is : Store) (level new_level at : ℕ) (bounds : Bounds) (aim : Aim) : Type 0 where
+-- The change is made in the subtree from an address down, which may have another level now where it
+-- is a root.
+pub record Replaced (was is : Store) (level new_level at : ℕ) (bounds : Bounds)
+    (aim : Aim) : Type 0 where
   pub old_pairs : List Entry
   pub new_pairs : List Entry
   pub old_nodes : List ℕ
@@ -79,6 +85,6 @@ pub record Replaced (was is : Store) (level new_level at : ℕ) (bounds : Bounds
   pub stays : (q : ℕ) → Contains old_nodes q → Contains new_nodes q ⊎ (is q ≡ None)
   pub uses : (q : ℕ) → IsGiven aim q → Contains new_nodes q
 
--- a part that a split, a join or a cut makes: filled, and not too full
+-- a part that a split, a merge or a cut makes: filled, and not too full
 abbrev pub IsPart : List Entry → Type 0
-IsPart entries = (1016 ≤ size entries) × (size entries ≤ 4064)
+IsPart entries = (LEAST_BYTES ≤ size entries) × (size entries ≤ ROOM_BYTES)

@@ -13,15 +13,19 @@ abbrev pub meant : HeldBounds → Bounds
 meant held = record { least = held.least; lower = held.lower; upper = held.upper }
 
 -- the entry at an index, with those before it and those after it
-pub record Splits (entries : List Entry) (index : ℕ) (before : List Entry) (entry : Entry) (after : List Entry) : Type 0 where
+pub record Splits (entries : List Entry) (index : ℕ) (before : List Entry) (entry : Entry)
+    (after : List Entry) : Type 0 where
   pub split : entries ≡ before ++ entry ∷ after
   pub count : length before ≡ index
 
 -- why a node was not read in its place
 abbrev pub IsPlaceFault : ℕ → ℕ → Bounds → Seen → TreeFault → Type 0
-IsPlaceFault level at bounds new = Blames (λ broken. (broken ≡ at) × IsKnown new at × IsBroken new.view level at bounds)
+IsPlaceFault level at bounds new =
+    Blames (λ broken. (broken ≡ at) × IsKnown new at × IsBroken new.view level at bounds)
 
 -- why a root was not
 abbrev pub IsRootFault : ℕ → Seen → TreeFault → Type 0
 IsRootFault root new =
-    Blames (λ broken. (broken ≡ root) × IsKnown new root × (new.view root ≡ None → ⊥) × ((level : ℕ) → IsBroken new.view level root root_bounds))
+    Blames
+    (λ broken. (broken ≡ root) × IsKnown new root × (new.view root ≡ None → ⊥)
+    × ((level : ℕ) → IsBroken new.view level root root_bounds))

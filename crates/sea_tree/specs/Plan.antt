@@ -45,7 +45,8 @@ plan_fills plan = count_filled plan.writes + one_filled plan.splice
 pub record Splices (seen : Seen) (writes : List Write) (splice : Splice) : Type 0 where
   pub known : IsKnown seen splice.at.0
   pub alone : is_among (changes_of writes) splice.at.0 ≡ false
-  pub makes : option_map (spliced splice.delta.cut splice.delta.gone splice.delta.put) (seen.view splice.at.0) ≡ Some splice.block
+  pub makes : option_map (spliced splice.delta.cut splice.delta.gone splice.delta.put)
+      (seen.view splice.at.0) ≡ Some splice.block
 
 -- The splice of a plan, if it has one, changes what stands there.
 abbrev pub CanSplice : Seen → Plan → Type 0

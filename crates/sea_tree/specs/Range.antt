@@ -5,9 +5,9 @@ use Rattle.std.specs.FinMap as map
 use Rattle.std.specs.FinMap.Entries.{where_key}
 use Rattle.sea_base.specs.Space.{Seen}
 use Rattle.sea_node.specs.Entries.{Entry, Values, key_order}
-use Rattle.sea_tree.specs.declared.way.Way.{Way}
+use Rattle.sea_tree.specs.declared.path.Path.{Path}
 use Rattle.sea_tree.specs.Tree.{IsWithin}
-use Rattle.sea_tree.specs.Way.{IsKnownWay}
+use Rattle.sea_tree.specs.Path.{IsKnownPath}
 
 -- a key is above a bound, if there is one
 abbrev pub is_above : Option (List ℕ) → List ℕ → Bool
@@ -24,17 +24,18 @@ entries_above after entries = where_key key_order (is_above after) entries
 
 -- the pairs of a content above one bound and below another
 abbrev pub pairs_upto : Option (List ℕ) → Option (List ℕ) → Values → List Entry
-pairs_upto upper after content = where_key key_order (is_within upper) (entries_above after (map.entries content))
+pairs_upto upper after content =
+    where_key key_order (is_within upper) (entries_above after (map.entries content))
 
 -- a range begins below a bound
 abbrev pub BeginsBelow : Option (List ℕ) → Option (List ℕ) → Type 0
 BeginsBelow None upper = Unit {0}
 BeginsBelow (Some bound) upper = IsWithin bound upper
 
--- A way comes to the leaf after that of another: its key is the upper bound of the one, and the lower bound
--- of the other.
-pub record IsNextWay (seen : Seen) (root : ℕ) (way next : Way) : Type 0 where
+-- A path comes to the leaf after that of another: its key is the upper bound of the one, and the
+-- lower bound of the other.
+pub record IsNextPath (seen : Seen) (root : ℕ) (path next : Path) : Type 0 where
   pub key : List ℕ
-  pub upper : way.bounds.upper ≡ Some key
+  pub upper : path.bounds.upper ≡ Some key
   pub lower : next.bounds.lower ≡ key
-  pub known : IsKnownWay seen root key next
+  pub known : IsKnownPath seen root key next

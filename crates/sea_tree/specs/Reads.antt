@@ -10,46 +10,52 @@ use Rattle.sea_tree.specs.Breaks.{HasNode, Child}
 abbrev pub IsChildOf : List Entry → ℕ → Type 0
 IsChildOf entries q = (entry : Entry) × Contains entries entry × IsAddress entry.1 q
 
--- the addresses on the way to a key, from this one down, by nodes in their places
-abbrev pub OnWay : Store → List ℕ → ℕ → ℕ → Bounds → ℕ → Type 0
-OnWay store key zero at bounds q = q ≡ at
-OnWay store key (suc level) at bounds q =
+-- the addresses on the path to a key, from this one down, by nodes in their places
+abbrev pub OnPath : Store → List ℕ → ℕ → ℕ → Bounds → ℕ → Type 0
+OnPath store key zero at bounds q = q ≡ at
+OnPath store key (suc level) at bounds q =
     (q ≡ at)
     ⊎ ((entries : List Entry) × HasNode store (suc level) at bounds entries
-    × ((before : List Entry) × (after : List Entry) × (child : ℕ) × (b : Bounds) × Child entries bounds.upper before after child b
-    × LiesWithin key b × OnWay store key level child b q))
+    × ((before : List Entry) × (after : List Entry) × (child : ℕ) × (b : Bounds)
+    × Child entries bounds.upper before after child b
+    × LiesWithin key b × OnPath store key level child b q))
 
--- the children of the nodes on the way
-abbrev pub BelowWay : Store → List ℕ → ℕ → ℕ → Bounds → ℕ → Type 0
-BelowWay store key zero at bounds q = ⊥
-BelowWay store key (suc level) at bounds q =
+-- the children of the nodes on the path
+abbrev pub BelowPath : Store → List ℕ → ℕ → ℕ → Bounds → ℕ → Type 0
+BelowPath store key zero at bounds q = ⊥
+BelowPath store key (suc level) at bounds q =
     (entries : List Entry) × HasNode store (suc level) at bounds entries
     × (IsChildOf entries q
-    ⊎ ((before : List Entry) × (after : List Entry) × (child : ℕ) × (b : Bounds) × Child entries bounds.upper before after child b
-    × LiesWithin key b × BelowWay store key level child b q))
+    ⊎ ((before : List Entry) × (after : List Entry) × (child : ℕ) × (b : Bounds)
+    × Child entries bounds.upper before after child b
+    × LiesWithin key b × BelowPath store key level child b q))
 
 -- the root, or an address reached so from it
 abbrev pub OfRoot : (ℕ → ℕ → Bounds → ℕ → Type 0) → Store → ℕ → ℕ → Type 0
 OfRoot below store root q =
-    (q ≡ root) ⊎ ((level : ℕ) × ((entries : List Entry) × HasNode store level root root_bounds entries) × below level root root_bounds q)
+    (q ≡ root)
+    ⊎ ((level : ℕ) × ((entries : List Entry) × HasNode store level root root_bounds entries)
+    × below level root root_bounds q)
 
-abbrev pub IsOnWay : Store → List ℕ → ℕ → ℕ → Type 0
-IsOnWay store key root q = OfRoot (OnWay store key) store root q
+abbrev pub IsOnPath : Store → List ℕ → ℕ → ℕ → Type 0
+IsOnPath store key root q = OfRoot (OnPath store key) store root q
 
-abbrev pub IsNearWay : Store → List ℕ → ℕ → ℕ → Type 0
-IsNearWay store key root q = OfRoot (BelowWay store key) store root q
+abbrev pub IsNearPath : Store → List ℕ → ℕ → ℕ → Type 0
+IsNearPath store key root q = OfRoot (BelowPath store key) store root q
 
 -- what was newly read is one of these addresses
 abbrev pub ReadsAmong : (Store → ℕ → Type 0) → Seen → Seen → Type 0
-ReadsAmong P old new = (at : ℕ) → (new.reads at ≡ old.reads at) ⊎ ((store : Store) → Agrees store new → P (laid old store) at)
+ReadsAmong P old new =
+    (at : ℕ) → (new.reads at ≡ old.reads at)
+    ⊎ ((store : Store) → Agrees store new → P (laid old store) at)
 
--- on the way to a key
-abbrev pub ReadsWay : ℕ → List ℕ → Seen → Seen → Type 0
-ReadsWay root key = ReadsAmong (λ store at. IsOnWay store key root at)
+-- on the path to a key
+abbrev pub ReadsPath : ℕ → List ℕ → Seen → Seen → Type 0
+ReadsPath root key = ReadsAmong (λ store at. IsOnPath store key root at)
 
 -- or beside it
 abbrev pub ReadsNear : ℕ → List ℕ → Seen → Seen → Type 0
-ReadsNear root key = ReadsAmong (λ store at. IsNearWay store key root at)
+ReadsNear root key = ReadsAmong (λ store at. IsNearPath store key root at)
 
 -- a child of a node with these entries alone
 abbrev pub ReadsChild : List Entry → Seen → Seen → Type 0
@@ -61,11 +67,13 @@ ReadsNothing old new = (at : ℕ) → new.reads at ≡ old.reads at
 
 -- a child of a root of this level with these entries alone
 abbrev pub ReadsRootChild : ℕ → List Entry → Seen → Seen → Type 0
-ReadsRootChild level entries old new = (at : ℕ) → (new.reads at ≡ old.reads at) ⊎ ((1 ≤ level) × IsChildOf entries at)
+ReadsRootChild level entries old new =
+    (at : ℕ) → (new.reads at ≡ old.reads at) ⊎ ((1 ≤ level) × IsChildOf entries at)
 
--- on the ways to the keys from one on
+-- on the paths to the keys from one on
 abbrev pub ReadsRange : ℕ → List ℕ → Seen → Seen → Type 0
-ReadsRange root from = ReadsAmong (λ store at. (key : List ℕ) × IsNotAbove from key × IsOnWay store key root at)
+ReadsRange root from =
+    ReadsAmong (λ store at. (key : List ℕ) × IsNotAbove from key × IsOnPath store key root at)
 
 -- what was newly read is the root or a node of the tree
 abbrev pub ReadsTree : ℕ → Seen → Seen → Type 0

@@ -12,15 +12,20 @@ use Rattle.sea_tree.specs.Subtrees.{Below}
 abbrev pub addresses : Walk → List ℕ
 addresses walk = map (λ at. at.0) walk.nodes
 
--- What a walk below a node has met: what stands there on every store that agrees, added to what was met before.
-pub record Adds (level : ℕ) (entries : List Entry) (upper : Option (List ℕ)) (old new : Seen) (before after : Walk) : Type 0 where
+-- What a walk below a node has met: what stands there on every store that agrees, added to what was
+-- met before.
+pub record Adds (level : ℕ) (entries : List Entry) (upper : Option (List ℕ)) (old new : Seen)
+    (before after : Walk) : Type 0 where
   pub pairs : List Entry
   pub nodes : List ℕ
-  pub below : (store : Store) → Agrees store new → Below (laid old store) level entries upper pairs nodes
+  pub below : (store : Store) → Agrees store new
+      → Below (laid old store) level entries upper pairs nodes
   pub counted : after.pairs ≡ min (before.pairs + length pairs) (2 ^ 64 - 1)
   pub listed : addresses after ≡ addresses before ++ nodes
 
 -- why it ended
 abbrev pub IsUnderFault : ℕ → List Entry → Option (List ℕ) → Seen → Seen → TreeFault → Type 0
 IsUnderFault level entries upper old new =
-    Blames (λ at. (store : Store) → Agrees store new → BreaksUnder (laid old store) level entries upper at)
+    Blames
+    (λ at. (store : Store) → Agrees store new
+    → BreaksUnder (laid old store) level entries upper at)

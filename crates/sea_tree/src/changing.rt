@@ -10,22 +10,22 @@ ghost use Rattle.sea_tree.specs.Breaks.{FillsFewer};
 ghost use Rattle.sea_tree.specs.Does.{Does, ChangesAtMost, SplicesOnce};
 ghost use Rattle.sea_tree.specs.Plan.{plan_changes, plan_fills, CanSplice};
 ghost use Rattle.sea_tree.specs.Reads.{ReadsNear};
-ghost use Rattle.sea_tree.specs.Way.{IsKnownWay};
+ghost use Rattle.sea_tree.specs.Path.{IsKnownPath};
 ghost use Rattle.sea_tree.specs.Form.{Rises, HasForm, HasFirst};
 ghost use Rattle.sea_tree.specs.Changing.{IsPlanned, TouchesOwn};
-ghost use Rattle.sea_tree.specs.Calls.{Meets, Becomes, ChangesOwn, IsChangeFault, IsPlanFault, IsWholeWay, IsOfSpace, IsUnchanged};
+ghost use Rattle.sea_tree.specs.Calls.{Meets, Becomes, ChangesOwn, IsChangeFault, IsPlanFault, IsWholePath, IsOfSpace, IsUnchanged};
 ghost use Rattle.sea_base.specs.Ghosts.{IsReady, IsCall};
 ghost use Rattle.sea_tree.specs.Calls.{space_fault};
 
 use crate::TreeFault;
 use crate::edit::Edit;
-use crate::plan::{Plan, perform, plan_node};
+use crate::path::{Path, path_to};
+use crate::plan::{CHANGED_BLOCKS, Plan, perform, plan_node};
 use crate::reading::value_of;
-use crate::rooting::settle_root;
-use crate::settling::settle;
-use crate::way::{Way, way_to};
+use crate::rebalancing::rebalance;
+use crate::rooting::rebalance_root;
 use sea_base::{Data, Duplicate, Key, Laddr, NoMemory, Pairs, Space};
-use sea_node::Node;
+use sea_node::{ENTRY_BYTES, Node, VALUE_BYTES};
 use std::alloc::Global;
 
 /// Puts a value under a key, and answers the one that was there.
@@ -38,33 +38,39 @@ pub fn put<S: Space>(
 ) -> Result<Option<Data>, TreeFault>
     requires ready { IsReady S.Space space.old }
     requires room { (S.seen space.old).next < 2 ^ 62 + 2 ^ 46 }
-    requires value { length value.now ≤ 1024 }
+    requires value { length value.now ≤ VALUE_BYTES }
     ensures changed { IfOk result (λ found. (store : Store) (content : Values)
         → Meets store root.0 (S.seen space.old) (S.seen space.new) content
-        → (found ≡ map.get content key.now) × Becomes store root.0 (S.seen space.old) (S.seen space.new) (map.insert content key.now value.now)) }
-    ensures whole { OnOk result (IsWholeWay root.0 key.now (S.seen space.old) (S.seen space.new)) }
-    ensures fault { IfErr result (IsChangeFault root.0 key.now (S.seen space.old) (S.seen space.new)) }
+        → (found ≡ map.get content key.now)
+        × Becomes store root.0 (S.seen space.old) (S.seen space.new)
+        (map.insert content key.now value.now)) }
+    ensures whole { OnOk result (IsWholePath root.0 key.now (S.seen space.old) (S.seen space.new)) }
+    ensures fault { IfErr result
+        (IsChangeFault root.0 key.now (S.seen space.old) (S.seen space.new)) }
     ensures never_full { IfErr result (λ fault. (store : Store) (content : Values)
-        → Meets store root.0 (S.seen space.old) (S.seen space.new) content → FillsFewer (laid (S.seen space.old) store) (2 ^ 25) → IsOfSpace fault) }
-    ensures form { OnOk result (HasForm root.0 key.now (Some value.now) (S.seen space.old) (S.seen space.new)
+        → Meets store root.0 (S.seen space.old) (S.seen space.new) content
+        → FillsFewer (laid (S.seen space.old) store) (2 ^ 25) → IsOfSpace fault) }
+    ensures form { OnOk result (HasForm root.0 key.now (Some value.now) (S.seen space.old)
+        (S.seen space.new)
         ⊎ HasFirst root.0 key.now value.now (S.seen space.old) (S.seen space.new)) }
     ensures own { OnOk result (ChangesOwn root.0 (S.seen space.old) (S.seen space.new)) }
     ensures near { OnOk result (ReadsNear root.0 key.now (S.seen space.old) (S.seen space.new)) }
     ensures unchanged { IfErr result (IsUnchanged (S.seen space.old) (S.seen space.new)) }
-    ensures few { OnOk result (ChangesAtMost 17 (S.seen space.old) (S.seen space.new)) }
-    ensures once { OnOk result (SplicesOnce 1091 (S.seen space.old) (S.seen space.new)) }
-    ensures next { ((S.seen space.old).next ≤ (S.seen space.new).next) × ((S.seen space.new).next < (S.seen space.old).next + 2 ^ 20) }
+    ensures few { OnOk result (ChangesAtMost CHANGED_BLOCKS (S.seen space.old) (S.seen space.new)) }
+    ensures once { OnOk result (SplicesOnce ENTRY_BYTES (S.seen space.old) (S.seen space.new)) }
+    ensures next { ((S.seen space.old).next ≤ (S.seen space.new).next)
+        × ((S.seen space.new).next < (S.seen space.old).next + 2 ^ 20) }
     ensures call { IsCall S.Space space.old space.new (space_fault result) }
 {
     // The bytes of a key are a name.
     prove!(!key.bytes().is_empty());
-    let Some(way) = way_to(alloc, space, root, key)? else {
+    let Some(path) = path_to(alloc, space, root, key)? else {
         let plan = planted(alloc, root, key, value)?;
         perform(space, plan)?;
         return Ok(None);
     };
-    let old = copy_of(&way.leaf, key)?;
-    let plan = mended(alloc, space, root, way, key, Some(value))?;
+    let old = copy_of(&path.leaf, key)?;
+    let plan = mended(alloc, space, root, path, key, Some(value))?;
     perform(space, plan)?;
     Ok(old)
 }
@@ -80,28 +86,35 @@ pub fn del<S: Space>(
     requires room { (S.seen space.old).next < 2 ^ 62 + 2 ^ 46 }
     ensures changed { IfOk result (λ found. (store : Store) (content : Values)
         → Meets store root.0 (S.seen space.old) (S.seen space.new) content
-        → (found ≡ map.get content key.now) × Becomes store root.0 (S.seen space.old) (S.seen space.new) (map.remove content key.now)) }
-    ensures whole { OnOk result (IsWholeWay root.0 key.now (S.seen space.old) (S.seen space.new)) }
-    ensures fault { IfErr result (IsChangeFault root.0 key.now (S.seen space.old) (S.seen space.new)) }
+        → (found ≡ map.get content key.now)
+        × Becomes store root.0 (S.seen space.old) (S.seen space.new)
+        (map.remove content key.now)) }
+    ensures whole { OnOk result (IsWholePath root.0 key.now (S.seen space.old) (S.seen space.new)) }
+    ensures fault { IfErr result
+        (IsChangeFault root.0 key.now (S.seen space.old) (S.seen space.new)) }
     ensures never_full { IfErr result (λ fault. (store : Store) (content : Values)
-        → Meets store root.0 (S.seen space.old) (S.seen space.new) content → FillsFewer (laid (S.seen space.old) store) (2 ^ 25) → IsOfSpace fault) }
-    ensures absent { IfOk result (λ found. IfNone found (OnlyRead (S.seen space.old) (S.seen space.new))) }
-    ensures form { IfOk result (λ found. IfSome found (λ value. HasForm root.0 key.now None (S.seen space.old) (S.seen space.new))) }
+        → Meets store root.0 (S.seen space.old) (S.seen space.new) content
+        → FillsFewer (laid (S.seen space.old) store) (2 ^ 25) → IsOfSpace fault) }
+    ensures absent { IfOk result (λ found.
+        IfNone found (OnlyRead (S.seen space.old) (S.seen space.new))) }
+    ensures form { IfOk result (λ found.
+        IfSome found (λ value. HasForm root.0 key.now None (S.seen space.old) (S.seen space.new))) }
     ensures own { OnOk result (ChangesOwn root.0 (S.seen space.old) (S.seen space.new)) }
     ensures near { OnOk result (ReadsNear root.0 key.now (S.seen space.old) (S.seen space.new)) }
     ensures unchanged { IfErr result (IsUnchanged (S.seen space.old) (S.seen space.new)) }
-    ensures few { OnOk result (ChangesAtMost 17 (S.seen space.old) (S.seen space.new)) }
-    ensures once { OnOk result (SplicesOnce 1091 (S.seen space.old) (S.seen space.new)) }
-    ensures next { ((S.seen space.old).next ≤ (S.seen space.new).next) × ((S.seen space.new).next < (S.seen space.old).next + 2 ^ 20) }
+    ensures few { OnOk result (ChangesAtMost CHANGED_BLOCKS (S.seen space.old) (S.seen space.new)) }
+    ensures once { OnOk result (SplicesOnce ENTRY_BYTES (S.seen space.old) (S.seen space.new)) }
+    ensures next { ((S.seen space.old).next ≤ (S.seen space.new).next)
+        × ((S.seen space.new).next < (S.seen space.old).next + 2 ^ 20) }
     ensures call { IsCall S.Space space.old space.new (space_fault result) }
 {
-    let Some(way) = way_to(alloc, space, root, key)? else {
+    let Some(path) = path_to(alloc, space, root, key)? else {
         return Ok(None);
     };
-    let Some(old) = copy_of(&way.leaf, key)? else {
+    let Some(old) = copy_of(&path.leaf, key)? else {
         return Ok(None);
     };
-    let plan = mended(alloc, space, root, way, key, None)?;
+    let plan = mended(alloc, space, root, path, key, None)?;
     perform(space, plan)?;
     Ok(Some(old))
 }
@@ -118,8 +131,9 @@ fn copy_of(node: &Node, key: &Key) -> Result<Option<Data>, NoMemory>
 
 // What is to be written for the first pair of a tree.
 fn planted(alloc: Global, root: Laddr, key: &Key, value: &Data) -> Result<Plan, NoMemory>
-    requires { length value.now ≤ 1024 }
-    ensures planned { IfOk result (λ plan. plan_changes plan ≡ (root.0, Some (node_bytes 0 ((key.now, value.now) ∷ []))) ∷ []) }
+    requires { length value.now ≤ VALUE_BYTES }
+    ensures planned { IfOk result (λ plan.
+        plan_changes plan ≡ (root.0, Some (node_bytes 0 ((key.now, value.now) ∷ []))) ∷ []) }
     ensures few { IfOk result (λ plan. plan_fills plan ≡ 1) }
     ensures whole { IfOk result (λ plan. plan.splice ≡ None) }
 {
@@ -131,25 +145,30 @@ fn planted(alloc: Global, root: Laddr, key: &Key, value: &Data) -> Result<Plan, 
     Ok(plan)
 }
 
-// What is to be written where a pair of a leaf comes, goes or has another value: from the leaf up, as far as
-// something is left to do.
+// What is to be written where a pair of a leaf comes, goes or has another value: from the leaf up,
+// as far as something is left to do.
 fn mended<S: Space>(
     alloc: Global,
     space: &mut S,
     root: Laddr,
-    way: Way,
+    path: Path,
     key: &Key,
     value: Option<&Data>,
 ) -> Result<Plan, TreeFault>
     requires ready { IsReady S.Space space.old }
     requires room { (S.seen space.old).next < 2 ^ 62 + 2 ^ 46 }
-    requires value { IfSome (option_copied value) (λ v. length v ≤ 1024) }
-    requires way { IsKnownWay (S.seen space.old) root.0 key.now way }
-    ensures planned { IfOk result (λ plan. IsPlanned root.0 key.now (option_copied value.entry) (S.seen space.old) (S.seen space.new) (plan_changes plan)) }
-    ensures form { IfOk result (λ plan. Rises (reverse way.steps.items) 0 way.at.0 (edited key.now (option_copied value.entry) way.leaf.entries)
+    requires value { IfSome (option_copied value) (λ v. length v ≤ VALUE_BYTES) }
+    requires path { IsKnownPath (S.seen space.old) root.0 key.now path }
+    ensures planned { IfOk result (λ plan.
+        IsPlanned root.0 key.now (option_copied value.entry) (S.seen space.old) (S.seen space.new)
+        (plan_changes plan)) }
+    ensures form { IfOk result (λ plan.
+        Rises (reverse path.steps.items) 0 path.at.0
+        (edited key.now (option_copied value.entry) path.leaf.entries)
         (S.seen space.old) (S.seen space.new) [] (plan_changes plan)) }
-    ensures own { IfOk result (λ plan. TouchesOwn root.0 (S.seen space.old) (S.seen space.new) (plan_changes plan)) }
-    ensures few { IfOk result (λ plan. plan_fills plan ≤ 17) }
+    ensures own { IfOk result (λ plan.
+        TouchesOwn root.0 (S.seen space.old) (S.seen space.new) (plan_changes plan)) }
+    ensures few { IfOk result (λ plan. plan_fills plan ≤ CHANGED_BLOCKS) }
     ensures spliced { IfOk result (CanSplice (S.seen space.new)) }
     ensures fault { IfErr result (IsPlanFault root.0 (S.seen space.old) (S.seen space.new)) }
     ensures near { OnOk result (ReadsNear root.0 key.now (S.seen space.old) (S.seen space.new)) }
@@ -170,20 +189,20 @@ fn mended<S: Space>(
         value,
     };
     let mut plan = Plan::new(alloc);
-    let Way {
+    let Path {
         mut steps,
         mut at,
         leaf: mut node,
         ..
-    } = way;
+    } = path;
     'up: while let Some(parent) = steps.pop() {
-        let Some(left) = settle(alloc, space, &mut plan, &parent, at, &node, edit)? else {
+        let Some(left) = rebalance(alloc, space, &mut plan, &parent, at, &node, edit)? else {
             return Ok(plan);
         };
         edit = left;
         at = parent.at;
         node = parent.node;
     }
-    settle_root(alloc, space, &mut plan, root, &node, edit)?;
+    rebalance_root(alloc, space, &mut plan, root, &node, edit)?;
     Ok(plan)
 }

@@ -1,14 +1,14 @@
 //! Where the entries of a node are cut in two.
-ghost use Rattle.std.specs.Prelude.{◌≡◌, ◌+◌, ◌<◌, ◌≤◌, ◌^◌, length, IfOk};
+ghost use Rattle.std.specs.Prelude.{◌≡◌, ◌+◌, ◌*◌, ◌<◌, ◌≤◌, ◌^◌, length, IfOk};
 ghost use Rattle.sea_node.specs.Entries.{size};
 ghost use Rattle.sea_tree.specs.Tree.{Bounds as Asked};
 ghost use Rattle.sea_tree.specs.Cut.{IsCut};
 ghost use Rattle.sea_tree.specs.Mending.{IsNearPlace};
-ghost use Rattle.sea_tree.specs.Settled.{AreHalves};
+ghost use Rattle.sea_tree.specs.Rebalanced.{AreHalves};
 
 use crate::edit::push_copies;
-use sea_base::{Data, Key, NoMemory, Pairs};
-use sea_node::Node;
+use sea_base::{BLOCK_BYTES, Data, Key, NoMemory, Pairs};
+use sea_node::{Node, ROOM_BYTES};
 use std::alloc::Global;
 
 /// How many bytes an entry takes: the lengths of its key and its value, and these.
@@ -34,7 +34,7 @@ pub(crate) fn size_of(entries: &[(Key, Data)]) -> usize
 /// Behind how many entries they are cut: where the two parts differ least, the first such place.
 pub(crate) fn cut_of(entries: &[(Key, Data)]) -> usize
     requires some { 2 ≤ length entries.now }
-    requires fits { size entries.now ≤ 8192 }
+    requires fits { size entries.now ≤ 2 * BLOCK_BYTES }
     ensures { IsCut entries.now result }
 {
     let total = size_of(entries);
@@ -55,7 +55,7 @@ pub(crate) fn cut_of(entries: &[(Key, Data)]) -> usize
 /// The two nodes that one with too many entries is cut into.
 pub(crate) fn halves(alloc: Global, node: &Node) -> Result<(Node, Node), NoMemory>
     requires near { (bounds : Asked) × IsNearPlace node.now.level bounds node.now.entries }
-    requires large { 4064 < size node.now.entries }
+    requires large { ROOM_BYTES < size node.now.entries }
     ensures { IfOk result (λ parts. AreHalves node.now.level node.now.entries parts.0 parts.1) }
 {
     let entries = node.entries.items();

@@ -47,7 +47,8 @@ fn with_pair(
     entries: &[(Key, Data)],
 ) -> Result<Pairs, NoMemory>
     requires { IsRising entries.now }
-    ensures { IfOk result (λ changed. changed ≡ edited key.now (option_copied value.entry) entries.now) }
+    ensures { IfOk result
+        (λ changed. changed ≡ edited key.now (option_copied value.entry) entries.now) }
 {
     let start = entries.partition_point(|entry| entry.0 < *key);
     let end = entries.partition_point(|entry| entry.0 <= *key);

@@ -13,7 +13,7 @@ pub enum TreeFault {
     /// A call of the space failed, or memory ran out.
     #[error("{0}")]
     Space(SpaceFault),
-    /// The block at this address is the first on the way that is no node in its place.
+    /// The block at this address is the first on the path that is no node in its place.
     #[error("broken")]
     Broken {
         /// The address of the block.

@@ -7,9 +7,9 @@ ghost use Rattle.sea_node.specs.Node.{IsNode};
 ghost use Rattle.sea_node.specs.Lookup.{Tells};
 ghost use Rattle.sea_tree.specs.Tree.{root_bounds, IsAddress, IsInPlace, IsWithin};
 ghost use Rattle.sea_tree.specs.Breaks.{HasNode};
-ghost use Rattle.sea_tree.specs.Calls.{IsWayFault, IsWholeWay};
+ghost use Rattle.sea_tree.specs.Calls.{IsPathFault, IsWholePath};
 ghost use Rattle.sea_tree.specs.Place.{meant, IsPlaceFault, IsRootFault};
-ghost use Rattle.sea_tree.specs.Reads.{ReadsWay};
+ghost use Rattle.sea_tree.specs.Reads.{ReadsPath};
 ghost use Rattle.sea_tree.specs.Lookup.{LooksAtLeaf};
 ghost use Rattle.sea_base.specs.Ghosts.{IsReady, IsCall};
 ghost use Rattle.sea_tree.specs.Calls.{space_fault};
@@ -26,12 +26,14 @@ pub(crate) fn look_up<S: Space>(
     key: &Key,
 ) -> Result<Option<Lookup>, TreeFault>
     requires { IsReady S.Space space.old }
-    ensures leaf { IfOk result (λ found. IfSome found (LooksAtLeaf (S.seen space.new) root.0 key.now)) }
+    ensures leaf { IfOk result
+        (λ found. IfSome found (LooksAtLeaf (S.seen space.new) root.0 key.now)) }
     ensures none { IfOk result (λ found. IfNone found ((S.seen space.new).view root.0 ≡ None)) }
     ensures known { OnOk result (IsKnown (S.seen space.new) root.0) }
-    ensures whole { OnOk result (IsWholeWay root.0 key.now (S.seen space.old) (S.seen space.new)) }
-    ensures fault { IfErr result (IsWayFault root.0 key.now (S.seen space.old) (S.seen space.new)) }
-    ensures within { ReadsWay root.0 key.now (S.seen space.old) (S.seen space.new) }
+    ensures whole { OnOk result (IsWholePath root.0 key.now (S.seen space.old) (S.seen space.new)) }
+    ensures fault { IfErr result
+        (IsPathFault root.0 key.now (S.seen space.old) (S.seen space.new)) }
+    ensures within { ReadsPath root.0 key.now (S.seen space.old) (S.seen space.new) }
     ensures reads { OnlyRead (S.seen space.old) (S.seen space.new) }
     ensures call { IsCall S.Space space.old space.new (space_fault result) }
 {
@@ -53,7 +55,9 @@ pub(crate) fn look_up<S: Space>(
 fn child_of(lookup: Lookup, upper: Option<Key>) -> (Laddr, Bounds)
     requires { MatchOption lookup.found ⊥ (λ entry. length entry.1 ≡ 8) }
     ensures address { IfSome lookup.found (λ entry. IsAddress entry.1 result.0.0) }
-    ensures bounds { IfSome lookup.found (λ entry. meant result.1 ≡ record { least = 1016; lower = entry.0; upper = option_or lookup.next upper }) }
+    ensures bounds { IfSome lookup.found
+        (λ entry. meant result.1
+        ≡ record { least = LEAST_BYTES; lower = entry.0; upper = option_or lookup.next upper }) }
 {
     let Lookup { found, next, .. } = lookup;
     let (lower, value) = found.unwrap();
@@ -75,7 +79,9 @@ fn look_at<S: Space>(
 ) -> Result<Lookup, TreeFault>
     requires { IsReady S.Space space.old }
     ensures level { IfOk result (λ lookup. lookup.level ≡ level) }
-    ensures node { IfOk result (λ lookup. (entries : List Entry) × HasNode (S.seen space.new).view level at.0 (meant bounds.now) entries × Tells key.now entries lookup) }
+    ensures node { IfOk result (λ lookup. (entries : List Entry)
+        × HasNode (S.seen space.new).view level at.0 (meant bounds.now) entries
+        × Tells key.now entries lookup) }
     ensures known { OnOk result (IsKnown (S.seen space.new) at.0) }
     ensures fault { IfErr result (IsPlaceFault level at.0 (meant bounds.now) (S.seen space.new)) }
     ensures one { ReadsAtMost at.0 (S.seen space.old) (S.seen space.new) }
@@ -96,7 +102,8 @@ fn look_at<S: Space>(
 
 // Whether a node of which this is told is in its place.
 fn admits(bounds: &Bounds, lookup: &Lookup) -> bool
-    ensures { (key : List ℕ) (entries : List Entry) → IsNode lookup.now.level entries → Tells key entries lookup.now
+    ensures { (key : List ℕ) (entries : List Entry) → IsNode lookup.now.level entries
+        → Tells key entries lookup.now
         → IsTrue result ↔ IsInPlace lookup.now.level (meant bounds.now) entries }
 {
     if lookup.size < bounds.least as usize || !is_below(&lookup.last, bounds.upper.as_ref()) {
@@ -116,7 +123,10 @@ fn look_at_root<S: Space>(
     key: &Key,
 ) -> Result<Option<Lookup>, TreeFault>
     requires { IsReady S.Space space.old }
-    ensures node { IfOk result (λ found. IfSome found (λ lookup. (entries : List Entry) × HasNode (S.seen space.new).view lookup.level root.0 root_bounds entries × Tells key.now entries lookup)) }
+    ensures node { IfOk result (λ found.
+        IfSome found (λ lookup. (entries : List Entry)
+        × HasNode (S.seen space.new).view lookup.level root.0 root_bounds entries
+        × Tells key.now entries lookup)) }
     ensures none { IfOk result (λ found. IfNone found ((S.seen space.new).view root.0 ≡ None)) }
     ensures known { OnOk result (IsKnown (S.seen space.new) root.0) }
     ensures fault { IfErr result (IsRootFault root.0 (S.seen space.new)) }
@@ -138,7 +148,8 @@ fn look_at_root<S: Space>(
 
 // Whether a node of which this is told may be a root: above the leaves its first key is the byte 0.
 fn is_root(lookup: &Lookup) -> bool
-    ensures { (key : List ℕ) (entries : List Entry) → IsNode lookup.now.level entries → Tells key entries lookup.now
+    ensures { (key : List ℕ) (entries : List Entry) → IsNode lookup.now.level entries
+        → Tells key entries lookup.now
         → IsTrue result ↔ IsInPlace lookup.now.level root_bounds entries }
 {
     lookup.level == 0 || lookup.first.bytes() == [0].as_slice()

@@ -4,14 +4,14 @@ ghost use Rattle.sea_base.specs.Space.{IsKnown, OnlyRead};
 ghost use Rattle.sea_node.specs.Entries.{size};
 ghost use Rattle.sea_node.specs.Node.{IsNode};
 ghost use Rattle.sea_tree.specs.Reads.{ReadsChild};
-ghost use Rattle.sea_tree.specs.Settled.{IsNearChild, HasChild, AreNeighbours, IsSettleFault};
+ghost use Rattle.sea_tree.specs.Rebalanced.{IsNearChild, HasChild, AreNeighbours, IsRebalanceFault};
 ghost use Rattle.sea_base.specs.Ghosts.{IsReady, IsCall};
 ghost use Rattle.sea_tree.specs.Calls.{space_fault};
 
 use crate::TreeFault;
 use crate::edit::push_copies;
-use crate::place::{Bounds, child_at, node_at};
-use crate::way::Step;
+use crate::path::Step;
+use crate::place::{Bounds, LEAST_BYTES, child_at, node_at};
 use sea_base::{Duplicate, Key, Laddr, NoMemory, Pairs, Space};
 use sea_node::Node;
 use std::alloc::Global;
@@ -43,10 +43,13 @@ impl Neighbours {
         requires level { parent.now.node.level ≡ node.now.level + 1 }
         requires index { parent.now.index < length parent.now.node.entries }
         requires child { IsNearChild parent.now node.now.level at.0 node.now.entries }
-        requires small { size node.now.entries < 1016 }
-        ensures held { IfOk result (AreNeighbours node.now.level at.0 node.now.entries parent.now (S.seen space.old) (S.seen space.new)) }
-        ensures fault { IfErr result (IsSettleFault node.now.level parent.now (S.seen space.old) (S.seen space.new)) }
-        ensures within { OnOk result (ReadsChild parent.now.node.entries (S.seen space.old) (S.seen space.new)) }
+        requires small { size node.now.entries < LEAST_BYTES }
+        ensures held { IfOk result (AreNeighbours node.now.level at.0 node.now.entries parent.now
+            (S.seen space.old) (S.seen space.new)) }
+        ensures fault { IfErr result (IsRebalanceFault node.now.level parent.now (S.seen space.old)
+            (S.seen space.new)) }
+        ensures within { OnOk result (ReadsChild parent.now.node.entries (S.seen space.old)
+            (S.seen space.new)) }
         ensures reads { OnlyRead (S.seen space.old) (S.seen space.new) }
         ensures call { IsCall S.Space space.old space.new (space_fault result) }
     {
@@ -58,7 +61,7 @@ impl Neighbours {
                 left: at,
                 right,
                 separator: entries[index].0.copy()?,
-                both: joined(alloc, node, &neighbour)?,
+                both: merged(alloc, node, &neighbour)?,
             });
         }
         let (left, neighbour) = child_of(alloc, space, parent, parent.index - 1, node.level)?;
@@ -66,7 +69,7 @@ impl Neighbours {
             left,
             right: at,
             separator: entries[parent.index].0.copy()?,
-            both: joined(alloc, &neighbour, node)?,
+            both: merged(alloc, &neighbour, node)?,
         })
     }
 }
@@ -84,10 +87,13 @@ fn child_of<S: Space>(
     requires level { parent.now.node.level ≡ level + 1 }
     requires index { index < length parent.now.node.entries }
     ensures level { IfOk result (λ found. found.1.level ≡ level) }
-    ensures child { IfOk result (λ found. HasChild (S.seen space.new).view parent.now index level found.0.0 found.1.entries) }
+    ensures child { IfOk result (λ found.
+        HasChild (S.seen space.new).view parent.now index level found.0.0 found.1.entries) }
     ensures known { IfOk result (λ found. IsKnown (S.seen space.new) found.0.0) }
-    ensures fault { IfErr result (IsSettleFault level parent.now (S.seen space.old) (S.seen space.new)) }
-    ensures within { OnOk result (ReadsChild parent.now.node.entries (S.seen space.old) (S.seen space.new)) }
+    ensures fault { IfErr result (IsRebalanceFault level parent.now (S.seen space.old)
+        (S.seen space.new)) }
+    ensures within { OnOk result (ReadsChild parent.now.node.entries (S.seen space.old)
+        (S.seen space.new)) }
     ensures reads { OnlyRead (S.seen space.old) (S.seen space.new) }
     ensures call { IsCall S.Space space.old space.new (space_fault result) }
 {
@@ -98,7 +104,7 @@ fn child_of<S: Space>(
 }
 
 // The entries of two nodes, as those of one.
-fn joined(alloc: Global, first: &Node, second: &Node) -> Result<Node, NoMemory>
+fn merged(alloc: Global, first: &Node, second: &Node) -> Result<Node, NoMemory>
     ensures level { IfOk result (λ node. node.level ≡ first.now.level) }
     ensures entries { IfOk result (λ node. node.entries ≡ first.now.entries ++ second.now.entries) }
 {

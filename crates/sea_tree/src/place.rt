@@ -17,11 +17,11 @@ use sea_base::{Data, Duplicate, Key, Laddr, NoMemory, Space, put_u64, u64_at};
 use sea_node::Node;
 use std::alloc::Global;
 
-/// A child has these bytes of entries at least.
+/// How many bytes of entries a node below the root has at least.
 pub(crate) const LEAST_BYTES: u32 = 1016;
 
-/// A node has these bytes of entries at most.
-pub(crate) const MOST_BYTES: usize = 4064;
+/// How many bytes a separator takes at most with its address: the lengths of both, 64 and 8 bytes.
+pub(crate) const SEPARATOR_BYTES: usize = 75;
 
 /// What a node's parent asks of it beside its level.
 #[derive(Debug, Drop)]
@@ -51,7 +51,8 @@ impl Bounds {
     pub fn of_child(node: &Node, index: usize, upper: Option<&Key>) -> Result<Bounds, NoMemory>
         requires { index < length node.now.entries }
         ensures { IfOk result (λ bounds. (before after : List Entry) (entry : Entry)
-            → Splits node.now.entries index before entry after → meant bounds ≡ child_bounds entry after (option_copied upper.entry)) }
+            → Splits node.now.entries index before entry after
+            → meant bounds ≡ child_bounds entry after (option_copied upper.entry)) }
     {
         let entries = node.entries.items();
         let next = entries.get(index + 1).map(|entry| &entry.0).or(upper);
@@ -103,7 +104,8 @@ pub(crate) fn child_at(node: &Node, index: usize) -> Laddr
     requires node { IsNode node.now.level node.now.entries }
     requires above { 1 ≤ node.now.level }
     requires within { index < length node.now.entries }
-    ensures { (before after : List Entry) (entry : Entry) → Splits node.now.entries index before entry after → IsAddress entry.1 result.0 }
+    ensures { (before after : List Entry) (entry : Entry)
+        → Splits node.now.entries index before entry after → IsAddress entry.1 result.0 }
 {
     Laddr(u64_at(node.entries.items()[index].1.bytes(), 0))
 }
@@ -130,7 +132,8 @@ pub(crate) fn index_towards(node: &Node, key: &Key) -> usize
     requires node { IsNode node.now.level node.now.entries }
     requires some { IsNotAbove (first_key node.now.entries) key.now }
     ensures within { result < length node.now.entries }
-    ensures leads { (before after : List Entry) (entry : Entry) → Splits node.now.entries result before entry after
+    ensures leads { (before after : List Entry) (entry : Entry)
+        → Splits node.now.entries result before entry after
         → LiesWithin key.now (child_bounds entry after None) }
 {
     node.entries
@@ -149,7 +152,8 @@ pub(crate) fn node_at<S: Space>(
 ) -> Result<Node, TreeFault>
     requires { IsReady S.Space space.old }
     ensures level { IfOk result (λ node. node.level ≡ level) }
-    ensures node { IfOk result (λ node. HasNode (S.seen space.new).view level at.0 (meant bounds.now) node.entries) }
+    ensures node { IfOk result (λ node.
+        HasNode (S.seen space.new).view level at.0 (meant bounds.now) node.entries) }
     ensures known { OnOk result (IsKnown (S.seen space.new) at.0) }
     ensures fault { IfErr result (IsPlaceFault level at.0 (meant bounds.now) (S.seen space.new)) }
     ensures one { ReadsAtMost at.0 (S.seen space.old) (S.seen space.new) }
@@ -175,7 +179,9 @@ pub(crate) fn root_at<S: Space>(
     root: Laddr,
 ) -> Result<Option<Node>, TreeFault>
     requires { IsReady S.Space space.old }
-    ensures node { IfOk result (λ found. IfSome found (λ node. HasNode (S.seen space.new).view node.level root.0 root_bounds node.entries)) }
+    ensures node { IfOk result (λ found.
+        IfSome found (λ node.
+        HasNode (S.seen space.new).view node.level root.0 root_bounds node.entries)) }
     ensures none { IfOk result (λ found. IfNone found ((S.seen space.new).view root.0 ≡ None)) }
     ensures known { OnOk result (IsKnown (S.seen space.new) root.0) }
     ensures fault { IfErr result (IsRootFault root.0 (S.seen space.new)) }

@@ -14,7 +14,7 @@ ghost use Rattle.std.specs.Result.{result_err};
 use crate::edit::Edit;
 use crate::splice::Splice;
 use sea_base::{Block, Laddr, NoMemory, Sequence, Space, SpaceFault};
-use sea_node::Node;
+use sea_node::{ENTRY_BYTES, Node};
 use std::alloc::Global;
 
 /// One thing to be written.
@@ -33,6 +33,10 @@ pub(crate) enum Write {
         at: Laddr,
     },
 }
+
+/// How many blocks a change of a pair leaves at most: two a level, and one more above a root that
+/// splits.
+pub const CHANGED_BLOCKS: usize = 17;
 
 /// What is to be written, in order.
 pub(crate) type Writes = Sequence<Write>;
@@ -79,7 +83,8 @@ pub(crate) fn plan_node(
     node: &Node,
 ) -> Result<(), NoMemory>
     requires { IsNode node.now.level node.now.entries }
-    ensures planned { OnOk result (changes_of writes.new ≡ (at.0, Some (node_bytes node.now.level node.now.entries)) ∷ changes_of writes.old) }
+    ensures planned { OnOk result (changes_of writes.new
+        ≡ (at.0, Some (node_bytes node.now.level node.now.entries)) ∷ changes_of writes.old) }
     ensures few { OnOk result (count_filled writes.new ≡ count_filled writes.old + 1) }
 {
     let block = node.print(alloc)?;
@@ -94,8 +99,9 @@ pub(crate) fn plan_gone(writes: &mut Writes, at: Laddr) -> Result<(), NoMemory>
     writes.push(Write::Gone { at })
 }
 
-/// Plans to write a node that stands at an address after an edit: a pair that comes or goes by a splice,
-/// unless something is planned at that address, which only a space that gives a filled address leads to.
+/// Plans to write a node that stands at an address after an edit: a pair that comes or goes by a
+/// splice, unless something is planned at that address, which only a space that gives a filled
+/// address leads to.
 pub(crate) fn plan_edit(
     alloc: Global,
     plan: &mut Plan,
@@ -109,9 +115,11 @@ pub(crate) fn plan_edit(
     requires level { edited.now.level ≡ node.now.level }
     requires edit { edited.now.entries ≡ after_edit edit node.now.entries }
     requires first { plan.old.splice ≡ None }
-    ensures planned { OnOk result (plan_changes plan.new ≡ (at.0, Some (node_bytes node.now.level edited.now.entries)) ∷ plan_changes plan.old) }
+    ensures planned { OnOk result (plan_changes plan.new
+        ≡ (at.0, Some (node_bytes node.now.level edited.now.entries)) ∷ plan_changes plan.old) }
     ensures few { OnOk result (plan_fills plan.new ≡ plan_fills plan.old + 1) }
-    ensures spliced { OnOk result ((seen : Seen) → IsKnown seen at.0 → NodeAt seen.view at.0 node.now.level node.now.entries → CanSplice seen plan.new) }
+    ensures spliced { OnOk result ((seen : Seen) → IsKnown seen at.0
+        → NodeAt seen.view at.0 node.now.level node.now.entries → CanSplice seen plan.new) }
 {
     let Edit::Pair { key, value } = edit else {
         return plan_node(alloc, &mut plan.writes, at, edited);
@@ -142,8 +150,9 @@ pub(crate) fn perform<S: Space>(space: &mut S, plan: Plan) -> Result<(), SpaceFa
     requires ready { IsReady S.Space space.old }
     requires spliced { CanSplice (S.seen space.old) plan }
     ensures done { OnOk result (Does (plan_changes plan) (S.seen space.old) (S.seen space.new)) }
-    ensures few { OnOk result (ChangesAtMost (plan_fills plan) (S.seen space.old) (S.seen space.new)) }
-    ensures once { OnOk result (SplicesOnce 1091 (S.seen space.old) (S.seen space.new)) }
+    ensures few { OnOk result
+        (ChangesAtMost (plan_fills plan) (S.seen space.old) (S.seen space.new)) }
+    ensures once { OnOk result (SplicesOnce ENTRY_BYTES (S.seen space.old) (S.seen space.new)) }
     ensures unread { OnOk result (ReadsNothing (S.seen space.old) (S.seen space.new)) }
     ensures memory { IfErr result (λ fault. fault ≡ OutOfMemory) }
     ensures next { (S.seen space.new).next ≡ (S.seen space.old).next }
@@ -162,7 +171,8 @@ fn write_all<S: Space>(space: &mut S, writes: Writes) -> Result<(), SpaceFault>
     requires { IsReady S.Space space.old }
     ensures done { OnOk result (Does (changes_of writes) (S.seen space.old) (S.seen space.new)) }
     ensures placed { OnOk result (ArePlaced (changes_of writes) (S.seen space.new)) }
-    ensures few { OnOk result (ChangesAtMost (count_filled writes) (S.seen space.old) (S.seen space.new)) }
+    ensures few { OnOk result (ChangesAtMost (count_filled writes) (S.seen space.old)
+        (S.seen space.new)) }
     ensures unread { OnOk result (ReadsNothing (S.seen space.old) (S.seen space.new)) }
     ensures memory { IfErr result (λ fault. fault ≡ OutOfMemory) }
     ensures next { (S.seen space.new).next ≡ (S.seen space.old).next }

@@ -5,16 +5,16 @@ ghost use Rattle.std.specs.FinMap as map;
 ghost use Rattle.std.specs.FinMap.Entries.{find};
 ghost use Rattle.sea_base.specs.Space.{Store, OnlyRead};
 ghost use Rattle.sea_node.specs.Entries.{Values, key_order};
-ghost use Rattle.sea_tree.specs.Calls.{Meets, pairs_above, IsWayFault, IsRangeFault, WalksWhole, IsWholeWay};
-ghost use Rattle.sea_tree.specs.Reads.{ReadsWay, ReadsRange};
+ghost use Rattle.sea_tree.specs.Calls.{Meets, pairs_above, IsPathFault, IsRangeFault, WalksWhole, IsWholePath};
+ghost use Rattle.sea_tree.specs.Reads.{ReadsPath, ReadsRange};
 ghost use Rattle.sea_tree.specs.Range.{is_above, entries_above};
 ghost use Rattle.sea_base.specs.Ghosts.{IsReady, IsCall};
 ghost use Rattle.sea_tree.specs.Calls.{space_fault};
 
 use crate::TreeFault;
 use crate::lookup::look_up;
+use crate::path::{path_after, path_to};
 use crate::place::Bounds;
-use crate::way::{way_after, way_to};
 use sea_base::{Data, Duplicate, Key, Laddr, NoMemory, Pairs, Space};
 use sea_node::{Lookup, Node};
 use std::alloc::Global;
@@ -23,10 +23,12 @@ use std::alloc::Global;
 pub fn get<S: Space>(space: &mut S, root: Laddr, key: &Key) -> Result<Option<Data>, TreeFault>
     requires { IsReady S.Space space.old }
     ensures value { IfOk result (λ found. (store : Store) (content : Values)
-        → Meets store root.0 (S.seen space.old) (S.seen space.new) content → found ≡ map.get content key.now) }
-    ensures whole { OnOk result (IsWholeWay root.0 key.now (S.seen space.old) (S.seen space.new)) }
-    ensures fault { IfErr result (IsWayFault root.0 key.now (S.seen space.old) (S.seen space.new)) }
-    ensures within { ReadsWay root.0 key.now (S.seen space.old) (S.seen space.new) }
+        → Meets store root.0 (S.seen space.old) (S.seen space.new) content
+        → found ≡ map.get content key.now) }
+    ensures whole { OnOk result (IsWholePath root.0 key.now (S.seen space.old) (S.seen space.new)) }
+    ensures fault { IfErr result
+        (IsPathFault root.0 key.now (S.seen space.old) (S.seen space.new)) }
+    ensures within { ReadsPath root.0 key.now (S.seen space.old) (S.seen space.new) }
     ensures reads { OnlyRead (S.seen space.old) (S.seen space.new) }
     ensures call { IsCall S.Space space.old space.new (space_fault result) }
 {
@@ -63,26 +65,32 @@ pub fn range<S: Space>(
 ) -> Result<Pairs, TreeFault>
     requires { IsReady S.Space space.old }
     ensures pairs { IfOk result (λ found. (store : Store) (content : Values)
-        → Meets store root.0 (S.seen space.old) (S.seen space.new) content → found ≡ take limit (pairs_above (option_copied after.entry) content)) }
-    ensures whole { IfOk result (λ found. WalksWhole root.0 (unwrap_or (option_copied after.entry) (0 ∷ [])) limit found (S.seen space.old) (S.seen space.new)) }
-    ensures fault { IfErr result (IsRangeFault root.0 (unwrap_or (option_copied after.entry) (0 ∷ [])) (S.seen space.old) (S.seen space.new)) }
-    ensures within { OnOk result (ReadsRange root.0 (unwrap_or (option_copied after.entry) (0 ∷ [])) (S.seen space.old) (S.seen space.new)) }
+        → Meets store root.0 (S.seen space.old) (S.seen space.new) content
+        → found ≡ take limit (pairs_above (option_copied after.entry) content)) }
+    ensures whole { IfOk result (λ found.
+        WalksWhole root.0 (unwrap_or (option_copied after.entry) (0 ∷ [])) limit found
+        (S.seen space.old) (S.seen space.new)) }
+    ensures fault { IfErr result
+        (IsRangeFault root.0 (unwrap_or (option_copied after.entry) (0 ∷ []))
+        (S.seen space.old) (S.seen space.new)) }
+    ensures within { OnOk result (ReadsRange root.0 (unwrap_or (option_copied after.entry) (0 ∷ []))
+        (S.seen space.old) (S.seen space.new)) }
     ensures reads { OnlyRead (S.seen space.old) (S.seen space.new) }
     ensures call { IsCall S.Space space.old space.new (space_fault result) }
 {
     let mut found = Pairs::new(alloc);
     let least = Bounds::root(alloc)?;
     let first = after.unwrap_or(&least.lower);
-    let Some(mut way) = way_to(alloc, space, root, first)? else {
+    let Some(mut path) = path_to(alloc, space, root, first)? else {
         return Ok(found);
     };
-    take_above(&mut found, &way.leaf, after, limit)?;
+    take_above(&mut found, &path.leaf, after, limit)?;
     'leaves: while found.items().len() < limit as usize {
-        let Some(next) = way_after(alloc, space, root, &way)? else {
+        let Some(next) = path_after(alloc, space, root, &path)? else {
             return Ok(found);
         };
         take_above(&mut found, &next.leaf, after, limit)?;
-        way = next;
+        path = next;
     }
     Ok(found)
 }
@@ -95,7 +103,8 @@ fn take_above(
     limit: u32,
 ) -> Result<(), NoMemory>
     requires { length found.old ≤ limit }
-    ensures { OnOk result (found.new ≡ take limit (found.old ++ entries_above (option_copied after.entry) leaf.now.entries)) }
+    ensures { OnOk result (found.new
+        ≡ take limit (found.old ++ entries_above (option_copied after.entry) leaf.now.entries)) }
 {
     let entries = leaf.entries.items();
     for (key, value) in entries {

@@ -1,4 +1,4 @@
-//! Settling the root of a tree whose entries changed: what is to be written of it.
+//! Rebalancing the root of a tree whose entries changed: what is to be written of it.
 ghost use Rattle.std.specs.Prelude.{◌≡◌, ◌+◌, ◌<◌, ◌≤◌, ◌++◌, ◌⊎◌, ◌^◌, [], None, List, IfOk, IfErr, OnOk, IsTrue, length};
 ghost use Rattle.std.specs.Option.{option_copied};
 ghost use Rattle.sea_base.specs.declared.space.SpaceFault.TheVariants.{NoMemory as OutOfMemory};
@@ -9,9 +9,9 @@ ghost use Rattle.sea_tree.specs.Breaks.{HasNode};
 ghost use Rattle.sea_tree.specs.Does.{Change, Does, overlaid};
 ghost use Rattle.sea_tree.specs.Plan.{change_of, changes_of, count_filled, plan_changes, plan_fills, CanSplice};
 ghost use Rattle.sea_tree.specs.Mending.{after_edit, IsNearPlace};
-ghost use Rattle.sea_tree.specs.Calls.{IsRootSettleFault, IsUnchanged};
+ghost use Rattle.sea_tree.specs.Calls.{IsRootRebalanceFault, IsUnchanged};
 ghost use Rattle.sea_tree.specs.Reads.{ReadsChild, ReadsNothing, ReadsRootChild};
-ghost use Rattle.sea_tree.specs.Changing.{root_entries, RootSplits, RootSinks, RootSettled};
+ghost use Rattle.sea_tree.specs.Changing.{root_entries, RootSplits, RootCollapses, RootRebalanced};
 ghost use Rattle.sea_base.specs.Ghosts.{IsReady, IsCall};
 ghost use Rattle.sea_tree.specs.Calls.{space_fault};
 ghost use Rattle.std.specs.Result.{result_err};
@@ -19,18 +19,18 @@ ghost use Rattle.std.specs.Result.{result_err};
 use crate::TreeFault;
 use crate::cut::{halves, size_of};
 use crate::edit::Edit;
-use crate::place::{Bounds, MOST_BYTES, address_of, value_of};
+use crate::place::{Bounds, SEPARATOR_BYTES, address_of, value_of};
 use crate::plan::{Plan, Write, Writes, plan_edit, plan_gone, plan_node};
 use sea_base::{Block, Duplicate, Laddr, NoMemory, Pairs, Space, SpaceFault};
-use sea_node::Node;
+use sea_node::{Node, ROOM_BYTES};
 use std::alloc::Global;
 
 // The highest level that a node has.
 const TOP_LEVEL: u32 = 7;
 
-/// Plans to write the root with its edit, or to raise the tree over two fresh nodes, or to lower it to its
-/// one child, or to leave nothing of it.
-pub(crate) fn settle_root<S: Space>(
+/// Plans to write the root with its edit, or to raise the tree over two fresh nodes, or to lower it
+/// to its one child, or to leave nothing of it.
+pub(crate) fn rebalance_root<S: Space>(
     alloc: Global,
     space: &mut S,
     plan: &mut Plan,
@@ -41,16 +41,22 @@ pub(crate) fn settle_root<S: Space>(
     requires ready { IsReady S.Space space.old }
     requires room { (S.seen space.old).next < 2 ^ 62 + 2 ^ 47 }
     requires known { IsKnown (S.seen space.old) root.0 }
-    requires node { HasNode (S.seen space.old).view node.now.level root.0 root_bounds node.now.entries }
+    requires node { HasNode
+        (S.seen space.old).view node.now.level root.0 root_bounds node.now.entries }
     requires first { plan.old.splice ≡ None }
     requires near { IsNearPlace node.now.level root_bounds (after_edit edit node.now.entries) }
-    requires grown { 1 ≤ node.now.level → size (after_edit edit node.now.entries) ≤ size node.now.entries + 75 }
-    ensures settled { OnOk result ((changes : List Change) × (plan_changes plan.new ≡ changes ++ plan_changes plan.old)
-        × RootSettled node.now.level root.0 (after_edit edit node.now.entries) (S.seen space.old) (S.seen space.new) (plan_changes plan.old) changes) }
+    requires grown { 1 ≤ node.now.level → size (after_edit edit node.now.entries)
+        ≤ size node.now.entries + SEPARATOR_BYTES }
+    ensures rebalanced { OnOk result ((changes : List Change)
+        × (plan_changes plan.new ≡ changes ++ plan_changes plan.old)
+        × RootRebalanced node.now.level root.0 (after_edit edit node.now.entries) (S.seen space.old)
+        (S.seen space.new) (plan_changes plan.old) changes) }
     ensures few { OnOk result (plan_fills plan.new ≤ plan_fills plan.old + 3) }
     ensures spliced { OnOk result (CanSplice (S.seen space.new) plan.new) }
-    ensures fault { IfErr result (IsRootSettleFault root.0 (S.seen space.old) (S.seen space.new)) }
-    ensures within { OnOk result (ReadsRootChild node.now.level node.now.entries (S.seen space.old) (S.seen space.new)) }
+    ensures fault { IfErr result
+        (IsRootRebalanceFault root.0 (S.seen space.old) (S.seen space.new)) }
+    ensures within { OnOk result (ReadsRootChild node.now.level node.now.entries (S.seen space.old)
+        (S.seen space.new)) }
     ensures reads { OnOk result (Does [] (S.seen space.old) (S.seen space.new)) }
     ensures unchanged { IfErr result (IsUnchanged (S.seen space.old) (S.seen space.new)) }
     ensures rises { (S.seen space.old).next ≤ (S.seen space.new).next }
@@ -62,7 +68,7 @@ pub(crate) fn settle_root<S: Space>(
         entries: edit.applied(alloc, node.entries.items())?,
     };
     let entries = edited.entries.items();
-    if size_of(entries) > MOST_BYTES {
+    if size_of(entries) > ROOM_BYTES {
         if edited.level == TOP_LEVEL {
             return Err(TreeFault::Broken { at: root });
         }
@@ -72,12 +78,13 @@ pub(crate) fn settle_root<S: Space>(
         return Ok(plan_gone(&mut plan.writes, root)?);
     }
     if edited.level > 0 && entries.len() == 1 {
-        return Ok(sink_root(space, &mut plan.writes, root, &edited)?);
+        return Ok(collapse_root(space, &mut plan.writes, root, &edited)?);
     }
     Ok(plan_edit(alloc, plan, root, node, edit, &edited)?)
 }
 
-// Plans to raise the tree: the two halves of the root go to fresh addresses, and the root leads to them.
+// Plans to raise the tree: the two halves of the root go to fresh addresses, and the root leads to
+// them.
 fn split_root<S: Space>(
     alloc: Global,
     space: &mut S,
@@ -88,10 +95,12 @@ fn split_root<S: Space>(
     requires ready { IsReady S.Space space.old }
     requires room { (S.seen space.old).next < 2 ^ 62 + 2 ^ 47 }
     requires near { IsNearPlace node.now.level root_bounds node.now.entries }
-    requires large { 4064 < size node.now.entries }
-    requires low { node.now.level < 7 }
-    ensures split { OnOk result ((changes : List Change) × (changes_of writes.new ≡ changes ++ changes_of writes.old)
-        × RootSplits node.now.level root.0 node.now.entries (S.seen space.old) (S.seen space.new) changes) }
+    requires large { ROOM_BYTES < size node.now.entries }
+    requires low { node.now.level < TOP_LEVEL }
+    ensures split { OnOk result ((changes : List Change)
+        × (changes_of writes.new ≡ changes ++ changes_of writes.old)
+        × RootSplits node.now.level root.0 node.now.entries (S.seen space.old)
+        (S.seen space.new) changes) }
     ensures few { OnOk result (count_filled writes.new ≡ count_filled writes.old + 3) }
     ensures memory { IfErr result (λ fault. fault ≡ OutOfMemory) }
     ensures unread { OnOk result (ReadsNothing (S.seen space.old) (S.seen space.new)) }
@@ -127,7 +136,7 @@ fn entries_over(alloc: Global, left: Laddr, right: Laddr, back: &Node) -> Result
 }
 
 // Plans to lower the tree: the root takes what is to stand at its one child.
-fn sink_root<S: Space>(
+fn collapse_root<S: Space>(
     space: &mut S,
     writes: &mut Writes,
     root: Laddr,
@@ -137,10 +146,13 @@ fn sink_root<S: Space>(
     requires near { IsNearPlace node.now.level root_bounds node.now.entries }
     requires above { 1 ≤ node.now.level }
     requires one { length node.now.entries ≡ 1 }
-    ensures sunk { OnOk result ((changes : List Change) × (changes_of writes.new ≡ changes ++ changes_of writes.old)
-        × RootSinks node.now.level root.0 node.now.entries (S.seen space.old) (S.seen space.new) (changes_of writes.old) changes) }
+    ensures collapsed { OnOk result ((changes : List Change)
+        × (changes_of writes.new ≡ changes ++ changes_of writes.old)
+        × RootCollapses node.now.level root.0 node.now.entries (S.seen space.old) (S.seen space.new)
+        (changes_of writes.old) changes) }
     ensures few { OnOk result (count_filled writes.new ≤ count_filled writes.old + 1) }
-    ensures within { OnOk result (ReadsChild node.now.entries (S.seen space.old) (S.seen space.new)) }
+    ensures within { OnOk result
+        (ReadsChild node.now.entries (S.seen space.old) (S.seen space.new)) }
     ensures reads { OnlyRead (S.seen space.old) (S.seen space.new) }
     ensures call { IsCall S.Space space.old space.new (result_err result) }
 {

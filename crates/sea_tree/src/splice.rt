@@ -1,6 +1,7 @@
 //! A splice of the block that stands at an address.
 ghost use Rattle.std.specs.Prelude.{◌≤◌, length};
 ghost use Rattle.sea_base.specs.Splice.{IsSplice};
+ghost use Rattle.sea_node.specs.declared.reading.TheConstants.{ENTRY_BYTES};
 
 use sea_base::{Block, Delta, Laddr};
 
@@ -14,5 +15,5 @@ pub(crate) struct Splice {
     /// The block that it makes.
     pub block: Block,
     ghost fits: { IsSplice delta.cut delta.gone delta.put },
-    ghost small: { length delta.put ≤ 1091 },
+    ghost small: { length delta.put ≤ ENTRY_BYTES },
 }

@@ -37,9 +37,13 @@ fn walk_below<S: Space>(
 ) -> Result<(), TreeFault>
     requires ready { IsReady S.Space space.old }
     requires node { IsNode node.now.level node.now.entries }
-    ensures adds { OnOk result (Adds node.now.level node.now.entries (option_copied upper.entry) (S.seen space.old) (S.seen space.new) walk.old walk.new) }
-    ensures fault { IfErr result (IsUnderFault node.now.level node.now.entries (option_copied upper.entry) (S.seen space.old) (S.seen space.new)) }
-    ensures listed { OnOk result (ReadsListed (addresses walk.new) (S.seen space.old) (S.seen space.new)) }
+    ensures adds { OnOk result (Adds node.now.level node.now.entries (option_copied upper.entry)
+        (S.seen space.old) (S.seen space.new) walk.old walk.new) }
+    ensures fault { IfErr result (IsUnderFault node.now.level node.now.entries
+        (option_copied upper.entry)
+        (S.seen space.old) (S.seen space.new)) }
+    ensures listed { OnOk result (ReadsListed (addresses walk.new) (S.seen space.old)
+        (S.seen space.new)) }
     ensures reads { OnlyRead (S.seen space.old) (S.seen space.new) }
     ensures call { IsCall S.Space space.old space.new (space_fault result) }
 {
@@ -64,7 +68,8 @@ fn walk_tree<S: Space>(alloc: Global, space: &mut S, root: Laddr) -> Result<Walk
     ensures walked { IfOk result (λ walk. (store : Store) → Agrees store (S.seen space.new)
         → IsWalked (laid (S.seen space.old) store) root.0 walk.pairs (addresses walk)) }
     ensures fault { IfErr result (IsWalkFault root.0 (S.seen space.old) (S.seen space.new)) }
-    ensures listed { IfOk result (λ walk. ReadsListed (root.0 ∷ addresses walk) (S.seen space.old) (S.seen space.new)) }
+    ensures listed { IfOk result (λ walk.
+        ReadsListed (root.0 ∷ addresses walk) (S.seen space.old) (S.seen space.new)) }
     ensures reads { OnlyRead (S.seen space.old) (S.seen space.new) }
     ensures call { IsCall S.Space space.old space.new (space_fault result) }
 {
@@ -93,7 +98,8 @@ pub struct Checked {
 pub fn check<S: Space>(alloc: Global, space: &mut S, root: Laddr) -> Result<Checked, TreeFault>
     requires { IsReady S.Space space.old }
     ensures whole { IfOk result (λ checked. (store : Store) → Agrees store (S.seen space.new)
-        → (nodes : List ℕ) × (checked.nodes ≡ length nodes) × IsWalked (laid (S.seen space.old) store) root.0 checked.pairs nodes) }
+        → (nodes : List ℕ) × (checked.nodes ≡ length nodes)
+        × IsWalked (laid (S.seen space.old) store) root.0 checked.pairs nodes) }
     ensures fault { IfErr result (IsWalkFault root.0 (S.seen space.old) (S.seen space.new)) }
     ensures within { OnOk result (ReadsTree root.0 (S.seen space.old) (S.seen space.new)) }
     ensures reads { OnlyRead (S.seen space.old) (S.seen space.new) }
@@ -111,9 +117,12 @@ pub fn drop_all<S: Space>(alloc: Global, space: &mut S, root: Laddr) -> Result<(
     requires { IsReady S.Space space.old }
     ensures gone { OnOk result ((store : Store) (content : Values)
         → Meets store root.0 (S.seen space.old) (S.seen space.new) content
-        → Becomes store root.0 (S.seen space.old) (S.seen space.new) map.empty × ((at : ℕ) → IsNodeOf (laid (S.seen space.old) store) root.0 at → laid (S.seen space.new) store at ≡ None)) }
+        → Becomes store root.0 (S.seen space.old) (S.seen space.new) map.empty
+        × ((at : ℕ) → IsNodeOf (laid (S.seen space.old) store) root.0 at
+        → laid (S.seen space.new) store at ≡ None)) }
     ensures fault { IfErr result (IsWalkFault root.0 (S.seen space.old) (S.seen space.new)) }
-    ensures whole { OnOk result ((store : Store) → Agrees store (S.seen space.new) → IsTree (laid (S.seen space.old) store) root.0) }
+    ensures whole { OnOk result ((store : Store) → Agrees store (S.seen space.new)
+        → IsTree (laid (S.seen space.old) store) root.0) }
     ensures within { OnOk result (ReadsTree root.0 (S.seen space.old) (S.seen space.new)) }
     ensures own { OnOk result (DropsOwn root.0 (S.seen space.old) (S.seen space.new)) }
     ensures unchanged { IfErr result (IsUnchanged (S.seen space.old) (S.seen space.new)) }

@@ -12,7 +12,8 @@ use std::test::Fail;
 
 // The splice of an edit of a leaf with the entries a 12, cc and e xyz, which take 6, 5 and 7 bytes.
 fn delta(alloc: Global, key: &[u8], value: Option<&[u8]>) -> Result<Delta, Fail>
-    requires { IsNode 0 (edited key.now (option_copied value) ((codes "a", codes "12") ∷ (codes "cc", []) ∷ (codes "e", codes "xyz") ∷ [])) }
+    requires { IsNode 0 (edited key.now (option_copied value)
+        ((codes "a", codes "12") ∷ (codes "cc", []) ∷ (codes "e", codes "xyz") ∷ [])) }
 {
     let mut entries = Pairs::new(alloc);
     entries.push((Name::new(alloc, b"a")?, Data::new(alloc, b"12")?))?;

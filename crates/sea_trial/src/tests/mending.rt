@@ -4,7 +4,7 @@ use crate::map_tree::MapTree;
 use std::alloc::Global;
 
 #[test]
-fn a_shorter_value_joins_a_leaf_with_its_neighbour(rt: HostRuntime) -> Result<(), TrialFault> {
+fn a_shorter_value_merges_a_leaf_with_its_neighbour(rt: HostRuntime) -> Result<(), TrialFault> {
     let alloc = rt.alloc();
     let mut tree = empty_tree(alloc);
     put_letters(alloc, &mut tree, b"abcd")?;
@@ -33,7 +33,7 @@ fn full_right_leaf(alloc: Global) -> Result<MapTree, TrialFault> {
     Ok(tree)
 }
 
-// The left leaf gets too thin, and the pairs of both are cut anew before `e`.
+// The left leaf gets too thin, and the pairs of both are redistributed before `e`.
 #[test]
 fn a_deletion_moves_a_longer_separator_up(rt: HostRuntime) -> Result<(), TrialFault> {
     let alloc = rt.alloc();

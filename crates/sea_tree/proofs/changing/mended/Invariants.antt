@@ -13,7 +13,7 @@ use Rattle.sea_tree.proofs.changing.mended.Given as goal
 abbrev pub invariant-up : goal.invariant-up
 invariant-up g l = record {
   climbs : Climbs (g.S.Space.seen l.fn.space) (g.S.Space.seen l.space) l.fn.root.0 l.fn.key (option_copied l.fn.value) l.steps.items l.node.level l.at.0 l.node.entries (after_edit l.edit l.node.entries) (plan_changes l.plan);
-  form : Completes (λ end done. Rises (reverse l.fn.way.steps.items) 0 l.fn.way.at.0 (edited l.fn.key (option_copied l.fn.value) l.fn.way.leaf.entries) (g.S.Space.seen l.fn.space) end [] done)
+  form : Completes (λ end done. Rises (reverse l.fn.path.steps.items) 0 l.fn.path.at.0 (edited l.fn.key (option_copied l.fn.value) l.fn.path.leaf.entries) (g.S.Space.seen l.fn.space) end [] done)
       l.steps.items l.node.level l.at.0 (after_edit l.edit l.node.entries) (g.S.Space.seen l.space) (plan_changes l.plan);
   near : ReadsNear l.fn.root.0 l.fn.key (g.S.Space.seen l.fn.space) (g.S.Space.seen l.space);
   few : plan_fills l.plan + 2 * length l.steps.items ≤ 14;

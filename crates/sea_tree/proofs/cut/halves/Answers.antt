@@ -2,7 +2,7 @@ use Rattle.std.proofs.Common.{◌∙◌, List, ap, subst, take, drop, length, ar
 use Rattle.std.proofs.lemmas.List.{take_rest}
 use Rattle.sea_node.specs.Entries.{Entry}
 use Rattle.sea_tree.specs.Cut.{IsCut}
-use Rattle.sea_tree.proofs.Settles.{many_entries, cut_halves}
+use Rattle.sea_tree.proofs.Rebalances.{many_entries, cut_halves}
 use Rattle.sea_tree.proofs.cut.halves.Goals as goal
 
 pub cut_of-cut-requires-clause-some : goal.cut_of-cut-requires-clause-some

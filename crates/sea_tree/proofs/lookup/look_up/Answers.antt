@@ -5,9 +5,9 @@ use Rattle.sea_base.proofs.Spaces.{only_read-trans, known_later}
 use Rattle.sea_tree.specs.Tree.{root_bounds}
 use Rattle.sea_tree.specs.Place.{meant}
 use Rattle.sea_tree.specs.Lookup.{LooksAtLeaf}
-use Rattle.sea_tree.proofs.WaySteps.{root_fault, comes_first}
-use Rattle.sea_tree.proofs.OnWays.{reads_root, reads_further}
-use Rattle.sea_tree.proofs.Lookups.{found_some, looks_further, looks_on_way, look_fault, whole_leaf}
+use Rattle.sea_tree.proofs.PathSteps.{root_fault, comes_first}
+use Rattle.sea_tree.proofs.OnPaths.{reads_root, reads_further}
+use Rattle.sea_tree.proofs.Lookups.{found_some, looks_further, looks_on_path, look_fault, whole_leaf}
 use Rattle.sea_tree.proofs.lookup.look_up.Goals as goal
 
 pub returns-in_err-lookup-clause-fault : goal.returns-in_err-lookup-clause-fault
@@ -58,7 +58,7 @@ down-preserved-in_ok-lookup-2 g c =
           c.child_of-bounds.ensures.address c.child_of-bounds.ensures.bounds c.look_at.ensures.reads c.in_ok-lookup-2.lookup told.0 c.in_ok-lookup-2.ensures.level told.1 told.2 c.in_ok-lookup-2.ensures.known;
       root = known_later c.look_at.ensures.reads c.args.root.0 before.root;
       within = reads_further c.args.root.0 c.args.key.now c.child_of-bounds.result.0.0 (g.S.Space.seen c.args.space.now) (g.S.Space.seen c.down.space) (g.S.Space.seen c.look_at.new.space) before.within c.look_at.ensures.one
-          (looks_on_way (g.S.Space.seen c.down.space) (g.S.Space.seen c.look_at.new.space) c.args.root.0 c.args.key.now c.down.upper c.down.lookup c.down-test.true before.down c.child_of-bounds.result.0.0 (meant c.child_of-bounds.result.1)
+          (looks_on_path (g.S.Space.seen c.down.space) (g.S.Space.seen c.look_at.new.space) c.args.root.0 c.args.key.now c.down.upper c.down.lookup c.down-test.true before.down c.child_of-bounds.result.0.0 (meant c.child_of-bounds.result.1)
           c.child_of-bounds.ensures.address c.child_of-bounds.ensures.bounds c.look_at.ensures.reads (g.S.Space.seen c.args.space.now) (only_read-trans before.reads c.look_at.ensures.reads) (g.met.S.Space.sound c.look_at.new.space));
       reads = only_read-trans before.reads c.look_at.ensures.reads;
       call = call_then g.S.Space g.met.S.Space.frame before.call c.in_ok-lookup-2.ensures.call;
@@ -73,7 +73,7 @@ down-preserved g c =
           c.child_of-bounds.ensures.address c.child_of-bounds.ensures.bounds c.look_at.ensures.reads c.in_ok-lookup-2.lookup told.0 c.in_ok-lookup-2.ensures.level told.1 told.2 c.in_ok-lookup-2.ensures.known;
       root = known_later c.look_at.ensures.reads c.args.root.0 before.root;
       within = reads_further c.args.root.0 c.args.key.now c.child_of-bounds.result.0.0 (g.S.Space.seen c.args.space.now) (g.S.Space.seen c.down.space) (g.S.Space.seen c.look_at.new.space) before.within c.look_at.ensures.one
-          (looks_on_way (g.S.Space.seen c.down.space) (g.S.Space.seen c.look_at.new.space) c.args.root.0 c.args.key.now c.down.upper c.down.lookup c.down-test.true before.down c.child_of-bounds.result.0.0 (meant c.child_of-bounds.result.1)
+          (looks_on_path (g.S.Space.seen c.down.space) (g.S.Space.seen c.look_at.new.space) c.args.root.0 c.args.key.now c.down.upper c.down.lookup c.down-test.true before.down c.child_of-bounds.result.0.0 (meant c.child_of-bounds.result.1)
           c.child_of-bounds.ensures.address c.child_of-bounds.ensures.bounds c.look_at.ensures.reads (g.S.Space.seen c.args.space.now) (only_read-trans before.reads c.look_at.ensures.reads) (g.met.S.Space.sound c.look_at.new.space));
       reads = only_read-trans before.reads c.look_at.ensures.reads;
       call = call_then g.S.Space g.met.S.Space.frame before.call c.in_ok-lookup-2.ensures.call;
@@ -96,7 +96,7 @@ pub returns-in_err-lookup-2-clause-within : goal.returns-in_err-lookup-2-clause-
 returns-in_err-lookup-2-clause-within g c =
     let before = c.down.invariant in
     reads_further c.args.root.0 c.args.key.now c.child_of-bounds.result.0.0 (g.S.Space.seen c.args.space.now) (g.S.Space.seen c.down.space) (g.S.Space.seen c.look_at.new.space) before.within c.look_at.ensures.one
-    (looks_on_way (g.S.Space.seen c.down.space) (g.S.Space.seen c.look_at.new.space) c.args.root.0 c.args.key.now c.down.upper c.down.lookup c.down-test.true before.down c.child_of-bounds.result.0.0 (meant c.child_of-bounds.result.1)
+    (looks_on_path (g.S.Space.seen c.down.space) (g.S.Space.seen c.look_at.new.space) c.args.root.0 c.args.key.now c.down.upper c.down.lookup c.down-test.true before.down c.child_of-bounds.result.0.0 (meant c.child_of-bounds.result.1)
     c.child_of-bounds.ensures.address c.child_of-bounds.ensures.bounds c.look_at.ensures.reads (g.S.Space.seen c.args.space.now) (only_read-trans before.reads c.look_at.ensures.reads) (g.met.S.Space.sound c.look_at.new.space))
 
 pub returns-in_err-lookup-2-clause-call : goal.returns-in_err-lookup-2-clause-call

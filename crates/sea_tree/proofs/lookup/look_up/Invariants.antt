@@ -1,7 +1,7 @@
 use Rattle.sea_base.specs.Ghosts.{IsCall}
 use Rattle.std.proofs.Common.{None, ◌≡◌, ◌≤◌, IsTrue}
 use Rattle.sea_base.specs.Space.{IsKnown, OnlyRead}
-use Rattle.sea_tree.specs.Reads.{ReadsWay}
+use Rattle.sea_tree.specs.Reads.{ReadsPath}
 use Rattle.sea_tree.specs.Lookup.{LooksDown}
 use Rattle.sea_tree.proofs.lookup.look_up.Given as goal
 
@@ -9,7 +9,7 @@ abbrev pub invariant-down : goal.invariant-down
 invariant-down g l = record {
   down : LooksDown (g.S.Space.seen l.space) l.fn.root.0 l.key l.upper l.lookup;
   root : IsKnown (g.S.Space.seen l.space) l.fn.root.0;
-  within : ReadsWay l.fn.root.0 l.fn.key (g.S.Space.seen l.fn.space) (g.S.Space.seen l.space);
+  within : ReadsPath l.fn.root.0 l.fn.key (g.S.Space.seen l.fn.space) (g.S.Space.seen l.space);
   reads : OnlyRead (g.S.Space.seen l.fn.space) (g.S.Space.seen l.space);
   call : IsCall g.S.Space l.fn.space l.space None;
 }

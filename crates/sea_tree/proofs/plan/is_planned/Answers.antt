@@ -3,7 +3,7 @@ use Rattle.std.proofs.lemmas.Bool.{eqb-true, eqb-false, eq-eqb, ne_eqb}
 use Rattle.sea_tree.specs.declared.plan.Write.{Write}
 use Rattle.sea_tree.specs.Plan.{change_of, changes_of}
 use Rattle.sea_tree.specs.Does.{is_among}
-use Rattle.sea_tree.proofs.RootSettles.{Passes, passes_more, is_planned_found, is_planned_none}
+use Rattle.sea_tree.proofs.RootRebalances.{Passes, passes_more, is_planned_found, is_planned_none}
 use Rattle.sea_tree.proofs.plan.is_planned.Goals as goal
 
 pub loop-write-init : goal.loop-write-init

@@ -1,4 +1,4 @@
-use Rattle.sea_tree.proofs.RootSettles.{Passes}
+use Rattle.sea_tree.proofs.RootRebalances.{Passes}
 use Rattle.sea_tree.proofs.plan.is_planned.Given as goal
 
 abbrev pub invariant-loop-write : goal.invariant-loop-write

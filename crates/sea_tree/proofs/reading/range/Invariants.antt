@@ -6,23 +6,23 @@ use Rattle.sea_base.specs.Space.{Store, Agrees, OnlyRead, laid}
 use Rattle.sea_node.specs.Entries.{Values}
 use Rattle.sea_tree.specs.Content.{HasContent}
 use Rattle.sea_tree.specs.Tree.{IsWithin}
-use Rattle.sea_tree.specs.Calls.{AreWholeWays}
+use Rattle.sea_tree.specs.Calls.{AreWholePaths}
 use Rattle.sea_tree.specs.Reads.{ReadsRange}
-use Rattle.sea_tree.specs.Way.{IsKnownWay}
+use Rattle.sea_tree.specs.Path.{IsKnownPath}
 use Rattle.sea_tree.specs.Range.{pairs_upto, BeginsBelow}
 use Rattle.sea_tree.proofs.reading.range.Given as goal
 
 abbrev pub invariant-leaves : goal.invariant-leaves
 invariant-leaves g l = record {
-  way : (key : List ℕ) × IsKnownWay (g.S.Space.seen l.space) l.fn.root.0 key l.way;
-  begins : BeginsBelow (option_copied l.after) l.way.bounds.upper;
-  whole : AreWholeWays l.fn.root.0 (unwrap_or (option_copied l.after) (0 ∷ [])) l.way.bounds.upper (g.S.Space.seen l.fn.space) (g.S.Space.seen l.space);
-  begun : IsWithin (unwrap_or (option_copied l.after) (0 ∷ [])) l.way.bounds.upper;
-  within : All (λ e. IsWithin e.0 l.way.bounds.upper) l.found;
+  path : (key : List ℕ) × IsKnownPath (g.S.Space.seen l.space) l.fn.root.0 key l.path;
+  begins : BeginsBelow (option_copied l.after) l.path.bounds.upper;
+  whole : AreWholePaths l.fn.root.0 (unwrap_or (option_copied l.after) (0 ∷ [])) l.path.bounds.upper (g.S.Space.seen l.fn.space) (g.S.Space.seen l.space);
+  begun : IsWithin (unwrap_or (option_copied l.after) (0 ∷ [])) l.path.bounds.upper;
+  within : All (λ e. IsWithin e.0 l.path.bounds.upper) l.found;
   range : ReadsRange l.fn.root.0 (unwrap_or (option_copied l.after) (0 ∷ [])) (g.S.Space.seen l.fn.space) (g.S.Space.seen l.space);
   count : length l.found ≤ l.limit;
   taken : (store : Store) (content : Values) → Agrees store (g.S.Space.seen l.space) → HasContent (laid (g.S.Space.seen l.fn.space) store) l.fn.root.0 content
-      → l.found ≡ take l.limit (pairs_upto l.way.bounds.upper (option_copied l.after) content);
+      → l.found ≡ take l.limit (pairs_upto l.path.bounds.upper (option_copied l.after) content);
   reads : OnlyRead (g.S.Space.seen l.fn.space) (g.S.Space.seen l.space);
   call : IsCall g.S.Space l.fn.space l.space None;
 }

@@ -7,7 +7,7 @@ use Rattle.std.proofs.lemmas.Iterator.Consumers.{YieldsList-turn, YieldsList-end
 use Rattle.sea_base.specs.Space.{laid}
 use Rattle.sea_tree.specs.Does.{Change}
 use Rattle.sea_tree.specs.Plan.{change_of}
-use Rattle.sea_tree.proofs.RootSettles.{Passes, passes_more, planned_last, planned_none, laid_read, if_ok_both}
+use Rattle.sea_tree.proofs.RootRebalances.{Passes, passes_more, planned_last, planned_none, laid_read, if_ok_both}
 use Rattle.sea_tree.proofs.rooting.planned.Goals as goal
 use Rattle.sea_tree.proofs.rooting.planned.Goals.{in-Some-block+in_ok-share-in-Some-block, in-None-block}
 

@@ -1,5 +1,5 @@
 use Rattle.std.proofs.Common.{length, reverse}
-use Rattle.sea_tree.proofs.RootSettles.{Passes}
+use Rattle.sea_tree.proofs.RootRebalances.{Passes}
 use Rattle.sea_tree.proofs.rooting.planned.Given as goal
 
 abbrev pub invariant-loop-write : goal.invariant-loop-write

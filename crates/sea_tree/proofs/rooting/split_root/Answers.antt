@@ -1,5 +1,5 @@
 use Rattle.sea_tree.specs.Plan.{changes_of}
-use Rattle.sea_tree.proofs.RootSettles.{node_over, root_splits}
+use Rattle.sea_tree.proofs.RootRebalances.{node_over, root_splits}
 use Rattle.sea_tree.proofs.rooting.split_root.Goals as goal
 
 pub plan_node-requires-3 : goal.plan_node-requires-3

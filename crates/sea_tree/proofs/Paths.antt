@@ -1,4 +1,4 @@
--- Ways on a store: what of them stays, what their leaves hold, and where they break.
+-- Paths on a store: what of them stays, what their leaves hold, and where they break.
 use Rattle.std.proofs.Common.{◌≡◌, ◌↔◌, inl, inr, ℕ, zero, suc, List, [], ◌∷◌, ◌++◌, Some, refl, sym, ap, subst, ◌∙◌, arith}
 use Rattle.std.specs.List.{Contains}
 use Rattle.std.proofs.lemmas.List.Elements.{All-contains}
@@ -7,13 +7,13 @@ use Rattle.sea_base.proofs.Spaces.{known_later, laid_known, laid-only_read}
 use Rattle.sea_base.specs.Name.{IsName}
 use Rattle.sea_node.specs.Entries.{Entry, IsBelow, IsRising}
 use Rattle.sea_node.proofs.Keys.{IsNotAbove-itself, IsNotAbove-below, below_or_same, not_above_or_below, not_above_then_below, not_below_itself}
-use Rattle.sea_tree.specs.declared.way.Step.{Step}
-use Rattle.sea_tree.specs.declared.way.Way.{Way}
+use Rattle.sea_tree.specs.declared.path.Step.{Step}
+use Rattle.sea_tree.specs.declared.path.Path.{Path}
 use Rattle.sea_tree.specs.Tree.{NodeAt, Bounds, root_bounds, LiesWithin, IsWithin, IsInPlace, child_bounds, IsAddress}
 use Rattle.sea_tree.specs.Content.{Guides, Leads, LeadsTo}
-use Rattle.sea_tree.specs.Breaks.{HasNode, IsBroken, Child, BreaksOnWay, IsBreakOnWay}
+use Rattle.sea_tree.specs.Breaks.{HasNode, IsBroken, Child, BreaksOnPath, IsBreakOnPath}
 use Rattle.sea_tree.specs.Place.{meant}
-use Rattle.sea_tree.specs.Way.{StepsDown, Descends, IsWay, AreKnown, ComesDown, IsKnownWay}
+use Rattle.sea_tree.specs.Path.{StepsDown, Descends, IsPath, AreKnown, ComesDown, IsKnownPath}
 use Rattle.sea_tree.proofs.Apart.{IsWithin-below, Leads-node}
 use Rattle.sea_tree.proofs.Holding.{one_node, same_address}
 use Rattle.sea_tree.proofs.Splits.{within_none, lies_above, one_split}
@@ -69,8 +69,8 @@ ComesDown-later {old} {new} {root} {key} {steps} {level} {at} {bounds} {entries}
       leads = down.leads;
     }
 
-pub IsKnownWay-later : {old new : Seen} {root : ℕ} {key : List ℕ} {way : Way} → OnlyRead old new → IsKnownWay old root key way → IsKnownWay new root key way
-IsKnownWay-later r known = record { leaf_level = known.leaf_level; down = ComesDown-later r known.down }
+pub IsKnownPath-later : {old new : Seen} {root : ℕ} {key : List ℕ} {path : Path} → OnlyRead old new → IsKnownPath old root key path → IsKnownPath new root key path
+IsKnownPath-later r known = record { leaf_level = known.leaf_level; down = ComesDown-later r known.down }
 
 -- ---- one step more, or less
 
@@ -102,7 +102,7 @@ pub AreKnown-pop : (seen : Seen) (steps : List Step) (step : Step) → AreKnown 
 AreKnown-pop seen [] step known = (tt, known.0)
 AreKnown-pop seen (first ∷ steps) step known = let rest = AreKnown-pop seen steps step known.1 in ((known.0, rest.0), rest.1)
 
--- ---- a way on every store that agrees
+-- ---- a path on every store that agrees
 
 pub laid_same : (old new : Seen) (store : Store) → OnlyRead old new → IsSound new → Agrees store new → (q : ℕ) → IsKnown new q → new.view q ≡ laid old store q
 laid_same old new store r sound agrees q known = sym (laid_known new store sound agrees q known) ∙ laid-only_read r store q
@@ -114,12 +114,12 @@ Descends-laid old new store root key steps level at bounds entries r sound agree
       HasNode-same new new.view (laid old store) same level at bounds entries down.known down.node,
     )
 
-pub way_laid : (old new : Seen) (store : Store) (root : ℕ) (key : List ℕ) (way : Way) → OnlyRead old new → IsSound new → Agrees store new → (known : IsKnownWay new root key way) → IsWay (laid old store) known.down.top root root_bounds way.steps.items key way.at.0 way.leaf.entries (meant way.bounds)
-way_laid old new store root key way r sound agrees known =
-    let l = Descends-laid old new store root key way.steps.items 0 way.at.0 (meant way.bounds) way.leaf.entries r sound agrees known.down in
+pub path_laid : (old new : Seen) (store : Store) (root : ℕ) (key : List ℕ) (path : Path) → OnlyRead old new → IsSound new → Agrees store new → (known : IsKnownPath new root key path) → IsPath (laid old store) known.down.top root root_bounds path.steps.items key path.at.0 path.leaf.entries (meant path.bounds)
+path_laid old new store root key path r sound agrees known =
+    let l = Descends-laid old new store root key path.steps.items 0 path.at.0 (meant path.bounds) path.leaf.entries r sound agrees known.down in
     (l.0, l.1, known.down.leads)
 
--- ---- the node that a way begins at
+-- ---- the node that a path begins at
 
 pub first_node : (s : Store) (level at : ℕ) (bounds : Bounds) (steps : List Step) (key : List ℕ) (n q : ℕ) (b : Bounds) (es : List Entry) → Descends s level at bounds steps key n q b → HasNode s n q b es → (entries : List Entry) × HasNode s level at bounds entries
 first_node s level at bounds [] key n q b es d has =
@@ -127,19 +127,19 @@ first_node s level at bounds [] key n q b es d has =
 first_node s zero at bounds (step ∷ steps) key n q b es d has = absurd d
 first_node s (suc level) at bounds (step ∷ steps) key n q b es d has = (step.node.entries, d.2.node)
 
--- ---- what a way's last bounds admit, all bounds on it do
+-- ---- what a path's last bounds admit, all bounds on it do
 
 pub step_lies : (s : Store) (level at : ℕ) (bounds : Bounds) (step : Step) (key : List ℕ) (child : ℕ) (below : Bounds) (k : List ℕ) → StepsDown s level at bounds step key child below → LiesWithin k below → LiesWithin k bounds
 step_lies s level at bounds step key child below k down lies =
     lies_above (suc level) bounds step.node.entries down.before down.after down.entry k down.split.split down.node.1 (subst (LiesWithin k) down.below_is lies)
 
-pub way_lies : (s : Store) (level at : ℕ) (bounds : Bounds) (steps : List Step) (key : List ℕ) (n q : ℕ) (b : Bounds) (k : List ℕ) → Descends s level at bounds steps key n q b → LiesWithin k b → LiesWithin k bounds
-way_lies s level at bounds [] key n q b k d lies = subst (LiesWithin k) (sym d.2) lies
-way_lies s zero at bounds (step ∷ steps) key n q b k d lies = absurd d
-way_lies s (suc level) at bounds (step ∷ steps) key n q b k d lies =
-    step_lies s level at bounds step key d.0 d.1 k d.2 (way_lies s level d.0 d.1 steps key n q b k d.3 lies)
+pub path_lies : (s : Store) (level at : ℕ) (bounds : Bounds) (steps : List Step) (key : List ℕ) (n q : ℕ) (b : Bounds) (k : List ℕ) → Descends s level at bounds steps key n q b → LiesWithin k b → LiesWithin k bounds
+path_lies s level at bounds [] key n q b k d lies = subst (LiesWithin k) (sym d.2) lies
+path_lies s zero at bounds (step ∷ steps) key n q b k d lies = absurd d
+path_lies s (suc level) at bounds (step ∷ steps) key n q b k d lies =
+    step_lies s level at bounds step key d.0 d.1 k d.2 (path_lies s level d.0 d.1 steps key n q b k d.3 lies)
 
--- ---- where a key leads that a way's last bounds admit
+-- ---- where a key leads that a path's last bounds admit
 
 -- a step leads such a key to its child
 pub step_guides : (s : Store) (level at : ℕ) (bounds : Bounds) (step : Step) (key : List ℕ) (child : ℕ) (below : Bounds) (k : List ℕ) → StepsDown s level at bounds step key child below → LiesWithin k below → Guides step.node.entries k child
@@ -166,7 +166,7 @@ leads_from s level at bounds [] key n q b k v d lies leads =
     subst (λ (l : ℕ). Leads s l at k v) (sym d.0) (subst (λ (a : ℕ). Leads s n a k v) (sym d.1) leads)
 leads_from s zero at bounds (step ∷ steps) key n q b k v d lies leads = absurd d
 leads_from s (suc level) at bounds (step ∷ steps) key n q b k v d lies leads =
-    (step.node.entries, d.2.node.0, (d.0, step_guides s level at bounds step key d.0 d.1 k d.2 (way_lies s level d.0 d.1 steps key n q b k d.3 lies), leads_from s level d.0 d.1 steps key n q b k v d.3 lies leads))
+    (step.node.entries, d.2.node.0, (d.0, step_guides s level at bounds step key d.0 d.1 k d.2 (path_lies s level d.0 d.1 steps key n q b k d.3 lies), leads_from s level d.0 d.1 steps key n q b k v d.3 lies leads))
 
 pub leads_to : (s : Store) (level at : ℕ) (bounds : Bounds) (steps : List Step) (key : List ℕ) (n q : ℕ) (b : Bounds) (k v : List ℕ) → Descends s level at bounds steps key n q b → LiesWithin k b → Leads s level at k v → Leads s n q k v
 leads_to s level at bounds [] key n q b k v d lies leads =
@@ -174,20 +174,20 @@ leads_to s level at bounds [] key n q b k v d lies leads =
 leads_to s zero at bounds (step ∷ steps) key n q b k v d lies leads = absurd d
 leads_to s (suc level) at bounds (step ∷ steps) key n q b k v d lies leads =
     let here = one_node s at (suc level) (suc level) leads.0 step.node.entries leads.1 d.2.node.0 in
-    let guided = step_guides s level at bounds step key d.0 d.1 k d.2 (way_lies s level d.0 d.1 steps key n q b k d.3 lies) in
+    let guided = step_guides s level at bounds step key d.0 d.1 k d.2 (path_lies s level d.0 d.1 steps key n q b k d.3 lies) in
     let child = one_guided step.node.entries k leads.2.0 d.0 d.2.node.0.spells.node.rising (subst (λ (es : List Entry). Guides es k leads.2.0) here.1 leads.2.1) guided in
     leads_to s level d.0 d.1 steps key n q b k v d.3 lies (subst (λ (a : ℕ). Leads s level a k v) child leads.2.2)
 
--- Paths lead to the pairs of a way's leaf alone, for keys within its bounds.
-pub leaf_leads : (s : Store) (level at : ℕ) (bounds : Bounds) (steps : List Step) (key : List ℕ) (leaf : ℕ) (es : List Entry) (b : Bounds) (k v : List ℕ) → IsWay s level at bounds steps key leaf es b → LiesWithin k b → LeadsTo s at k v ↔ Contains es (k, v)
-leaf_leads s level at bounds steps key leaf es b k v way lies = (
+-- Paths lead to the pairs of a path's leaf alone, for keys within its bounds.
+pub leaf_leads : (s : Store) (level at : ℕ) (bounds : Bounds) (steps : List Step) (key : List ℕ) (leaf : ℕ) (es : List Entry) (b : Bounds) (k v : List ℕ) → IsPath s level at bounds steps key leaf es b → LiesWithin k b → LeadsTo s at k v ↔ Contains es (k, v)
+leaf_leads s level at bounds steps key leaf es b k v path lies = (
   (λ leads.
-      let top = first_node s level at bounds steps key 0 leaf b es way.0 way.1 in
+      let top = first_node s level at bounds steps key 0 leaf b es path.0 path.1 in
       let from = Leads-node s leads.0 at k v leads.1 in
       let same = (one_node s at leads.0 level from.0 top.0 from.1 top.1.0).0 in
-      let last = leads_to s level at bounds steps key 0 leaf b k v way.0 lies (subst (λ (l : ℕ). Leads s l at k v) same leads.1) in
-      subst (λ (fs : List Entry). Contains fs (k, v)) (one_node s leaf 0 0 last.0 es last.1 way.1.0).1 last.2),
-  (λ has. (level, leads_from s level at bounds steps key 0 leaf b k v way.0 lies (es, way.1.0, has))),
+      let last = leads_to s level at bounds steps key 0 leaf b k v path.0 lies (subst (λ (l : ℕ). Leads s l at k v) same leads.1) in
+      subst (λ (fs : List Entry). Contains fs (k, v)) (one_node s leaf 0 0 last.0 es last.1 path.1.0).1 last.2),
+  (λ has. (level, leads_from s level at bounds steps key 0 leaf b k v path.0 lies (es, path.1.0, has))),
 )
 
 -- a key that a path leads to is a name
@@ -195,22 +195,22 @@ pub leads_name : (s : Store) (level at : ℕ) (k v : List ℕ) → Leads s level
 leads_name s zero at k v leads = All-contains (λ (e : Entry). IsName e.0) leads.0 (k, v) leads.1.spells.node.keys leads.2
 leads_name s (suc level) at k v leads = leads_name s level leads.2.0 k v leads.2.2
 
--- ---- where a way breaks
+-- ---- where a path breaks
 
-broken_here : (s : Store) (key : List ℕ) (level at : ℕ) (bounds : Bounds) → IsBroken s level at bounds → BreaksOnWay s key level at bounds at
+broken_here : (s : Store) (key : List ℕ) (level at : ℕ) (bounds : Bounds) → IsBroken s level at bounds → BreaksOnPath s key level at bounds at
 broken_here s key zero at bounds broken = (refl, broken)
 broken_here s key (suc level) at bounds broken = inl (refl, broken)
 
-pub broken_below : (s : Store) (level at : ℕ) (bounds : Bounds) (steps : List Step) (key : List ℕ) (n q : ℕ) (b : Bounds) → Descends s level at bounds steps key n q b → IsBroken s n q b → BreaksOnWay s key level at bounds q
+pub broken_below : (s : Store) (level at : ℕ) (bounds : Bounds) (steps : List Step) (key : List ℕ) (n q : ℕ) (b : Bounds) → Descends s level at bounds steps key n q b → IsBroken s n q b → BreaksOnPath s key level at bounds q
 broken_below s level at bounds [] key n q b d broken =
-    subst (λ (a : ℕ). BreaksOnWay s key level at bounds a) d.1 (broken_here s key level at bounds (subst (λ (l : ℕ). IsBroken s l at bounds) (sym d.0) (subst (λ (a : ℕ). IsBroken s n a bounds) (sym d.1) (subst (λ (x : Bounds). IsBroken s n q x) (sym d.2) broken))))
+    subst (λ (a : ℕ). BreaksOnPath s key level at bounds a) d.1 (broken_here s key level at bounds (subst (λ (l : ℕ). IsBroken s l at bounds) (sym d.0) (subst (λ (a : ℕ). IsBroken s n a bounds) (sym d.1) (subst (λ (x : Bounds). IsBroken s n q x) (sym d.2) broken))))
 broken_below s zero at bounds (step ∷ steps) key n q b d broken = absurd d
 broken_below s (suc level) at bounds (step ∷ steps) key n q b d broken =
     let child : Child step.node.entries bounds.upper d.2.before d.2.after d.0 d.1 = record { entry = d.2.entry; split = d.2.split.split; address = d.2.address; bounds_are = d.2.below_is } in
     inr (step.node.entries, d.2.node, (d.2.before, d.2.after, d.0, d.1, child, d.2.leads, broken_below s level d.0 d.1 steps key n q b d.3 broken))
 
--- a whole way breaks nowhere
-pub whole_below : (s : Store) (level at : ℕ) (bounds : Bounds) (steps : List Step) (key : List ℕ) (leaf : ℕ) (b : Bounds) (es : List Entry) (q : ℕ) → Descends s level at bounds steps key 0 leaf b → HasNode s 0 leaf b es → BreaksOnWay s key level at bounds q → ⊥
+-- a whole path breaks nowhere
+pub whole_below : (s : Store) (level at : ℕ) (bounds : Bounds) (steps : List Step) (key : List ℕ) (leaf : ℕ) (b : Bounds) (es : List Entry) (q : ℕ) → Descends s level at bounds steps key 0 leaf b → HasNode s 0 leaf b es → BreaksOnPath s key level at bounds q → ⊥
 whole_below s zero at bounds [] key leaf b es q d has breaks =
     breaks.1 es (subst (λ (a : ℕ). NodeAt s a 0 es) (sym d.1) has.0) (subst (λ (x : Bounds). IsInPlace 0 x es) (sym d.2) has.1)
 whole_below s (suc level) at bounds [] key leaf b es q d has breaks = absurd (let e : suc level ≡ 0 = d.0 in omega arith)
@@ -230,18 +230,18 @@ whole_below s (suc level) at bounds (step ∷ steps) key leaf b es q d has (inr 
     let same = one_split key before d.2.before after d.2.after is.entry d.2.entry (subst IsRising is.split breaks.1.0.spells.node.rising) split inside.0 (within_none key after bounds.upper inside.1) mine.0 (within_none key d.2.after bounds.upper mine.1) in
     let child_is : child ≡ d.0 = same_address d.2.entry.1 child d.0 (subst (λ (e : Entry). IsAddress e.1 child) same.1 is.address) d.2.address in
     let below_is : below ≡ d.1 = is.bounds_are ∙ ap (λ (e : Entry). child_bounds e after bounds.upper) same.1 ∙ ap (λ (fs : List Entry). child_bounds d.2.entry fs bounds.upper) same.2 ∙ sym d.2.below_is in
-    whole_below s level d.0 d.1 steps key leaf b es q d.3 has (subst (λ (a : ℕ). BreaksOnWay s key level a d.1 q) child_is (subst (λ (x : Bounds). BreaksOnWay s key level child x q) below_is breaks.2.6))
+    whole_below s level d.0 d.1 steps key leaf b es q d.3 has (subst (λ (a : ℕ). BreaksOnPath s key level a d.1 q) child_is (subst (λ (x : Bounds). BreaksOnPath s key level child x q) below_is breaks.2.6))
 
-pub no_break : (s : Store) (level root : ℕ) (steps : List Step) (key : List ℕ) (leaf : ℕ) (es : List Entry) (b : Bounds) (q : ℕ) → IsWay s level root root_bounds steps key leaf es b → IsBreakOnWay s key root q → ⊥
-no_break s level root steps key leaf es b q way (some, inl here) =
-    let top = first_node s level root root_bounds steps key 0 leaf b es way.0 way.1 in
+pub no_break : (s : Store) (level root : ℕ) (steps : List Step) (key : List ℕ) (leaf : ℕ) (es : List Entry) (b : Bounds) (q : ℕ) → IsPath s level root root_bounds steps key leaf es b → IsBreakOnPath s key root q → ⊥
+no_break s level root steps key leaf es b q path (some, inl here) =
+    let top = first_node s level root root_bounds steps key 0 leaf b es path.0 path.1 in
     here.1 level top.0 top.1.0 top.1.1
-no_break s level root steps key leaf es b q way (some, inr below) =
-    let top = first_node s level root root_bounds steps key 0 leaf b es way.0 way.1 in
+no_break s level root steps key leaf es b q path (some, inr below) =
+    let top = first_node s level root root_bounds steps key 0 leaf b es path.0 path.1 in
     let same = (one_node s root below.0 level below.1.0 top.0 below.1.1.0 top.1.0).0 in
-    whole_below s level root root_bounds steps key leaf b es q way.0 way.1 (subst (λ (l : ℕ). BreaksOnWay s key l root root_bounds q) same below.2)
+    whole_below s level root root_bounds steps key leaf b es q path.0 path.1 (subst (λ (l : ℕ). BreaksOnPath s key l root root_bounds q) same below.2)
 
--- ---- two ways on one store
+-- ---- two paths on one store
 
 -- that some key may take both, end alike
 same_last : (s : Store) (level at : ℕ) (bounds : Bounds) (steps steps' : List Step) (key key' : List ℕ) (q q' : ℕ) (b b' : Bounds) (k : List ℕ) → Descends s level at bounds steps key 0 q b → Descends s level at bounds steps' key' 0 q' b' → LiesWithin k b → LiesWithin k b' → b ≡ b'
@@ -252,15 +252,15 @@ same_last s zero at bounds (step ∷ steps) steps' key key' q q' b b' k d d' lie
 same_last s (suc level) at bounds (step ∷ steps) [] key key' q q' b b' k d d' lies lies' = absurd (let e : suc level ≡ 0 = d'.0 in omega arith)
 same_last s (suc level) at bounds (step ∷ steps) (step' ∷ steps') key key' q q' b b' k d d' lies lies' =
     let es = (one_node s at (suc level) (suc level) step.node.entries step'.node.entries d.2.node.0 d'.2.node.0).1 in
-    let first = subst (LiesWithin k) d.2.below_is (way_lies s level d.0 d.1 steps key 0 q b k d.3 lies) in
-    let second = subst (LiesWithin k) d'.2.below_is (way_lies s level d'.0 d'.1 steps' key' 0 q' b' k d'.3 lies') in
+    let first = subst (LiesWithin k) d.2.below_is (path_lies s level d.0 d.1 steps key 0 q b k d.3 lies) in
+    let second = subst (LiesWithin k) d'.2.below_is (path_lies s level d'.0 d'.1 steps' key' 0 q' b' k d'.3 lies') in
     let same = one_split k d.2.before d'.2.before d.2.after d'.2.after d.2.entry d'.2.entry (subst IsRising d.2.split.split d.2.node.0.spells.node.rising) (sym d.2.split.split ∙ es ∙ d'.2.split.split) first.0 (within_none k d.2.after bounds.upper first.1) second.0 (within_none k d'.2.after bounds.upper second.1) in
     let child = same_address d'.2.entry.1 d.0 d'.0 (subst (λ (e : Entry). IsAddress e.1 d.0) same.1 d.2.address) d'.2.address in
     let below = d.2.below_is ∙ ap (λ (e : Entry). child_bounds e d.2.after bounds.upper) same.1 ∙ ap (λ (fs : List Entry). child_bounds d'.2.entry fs bounds.upper) same.2 ∙ sym d'.2.below_is in
     same_last s level d'.0 d'.1 steps steps' key key' q q' b b' k (subst (λ (a : ℕ). Descends s level a d'.1 steps key 0 q b) child (subst (λ (x : Bounds). Descends s level d.0 x steps key 0 q b) below d.3)) d'.3 lies lies'
 
--- The way to the upper bound of a way's leaf comes to the next leaf, of which it is the lower bound.
-pub next_lower : (s : Store) (level level' root : ℕ) (steps steps' : List Step) (key u : List ℕ) (leaf leaf' : ℕ) (es es' : List Entry) (b b' : Bounds) → IsWay s level root root_bounds steps key leaf es b → IsWay s level' root root_bounds steps' u leaf' es' b' → b.upper ≡ Some u → b'.lower ≡ u
+-- The path to the upper bound of a path's leaf comes to the next leaf, of which it is the lower bound.
+pub next_lower : (s : Store) (level level' root : ℕ) (steps steps' : List Step) (key u : List ℕ) (leaf leaf' : ℕ) (es es' : List Entry) (b b' : Bounds) → IsPath s level root root_bounds steps key leaf es b → IsPath s level' root root_bounds steps' u leaf' es' b' → b.upper ≡ Some u → b'.lower ≡ u
 next_lower s level level' root steps steps' key u leaf leaf' es es' b b' first second upper =
     let top = first_node s level root root_bounds steps key 0 leaf b es first.0 first.1 in
     let top' = first_node s level' root root_bounds steps' u 0 leaf' b' es' second.0 second.1 in

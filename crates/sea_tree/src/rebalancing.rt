@@ -1,5 +1,5 @@
-//! Settling one node below the root whose entries changed: what is to be written of it, and what is left to
-//! do in its parent.
+//! Rebalancing one node below the root whose entries changed: what is to be written of it, and what
+//! is left to do in its parent.
 ghost use Rattle.std.specs.Prelude.{◌≡◌, ◌+◌, ◌<◌, ◌≤◌, ◌++◌, ◌⊎◌, ◌^◌, [], Some, None, List, IfSome, IfOk, IfErr, OnOk, IsTrue, length};
 ghost use Rattle.sea_base.specs.declared.space.SpaceFault.TheVariants.{NoMemory as OutOfMemory};
 ghost use Rattle.sea_base.specs.Space.{IsKnown};
@@ -11,7 +11,7 @@ ghost use Rattle.sea_tree.specs.Does.{Change, Does};
 ghost use Rattle.sea_tree.specs.Plan.{changes_of, count_filled, plan_changes, plan_fills, CanSplice};
 ghost use Rattle.sea_tree.specs.Mending.{after_edit, IsNearPlace};
 ghost use Rattle.sea_tree.specs.Reads.{ReadsChild, ReadsNothing};
-ghost use Rattle.sea_tree.specs.Settled.{IsNearChild, SplitsInTwo, Joined, CutAnew, Settled, IsSettleFault};
+ghost use Rattle.sea_tree.specs.Rebalanced.{IsNearChild, SplitsInTwo, Merged, Redistributed, Rebalanced, IsRebalanceFault};
 ghost use Rattle.sea_base.specs.Ghosts.{IsReady, IsCall};
 ghost use Rattle.sea_tree.specs.Calls.{space_fault};
 ghost use Rattle.std.specs.Result.{result_err};
@@ -20,16 +20,16 @@ use crate::TreeFault;
 use crate::cut::{halves, size_of};
 use crate::edit::Edit;
 use crate::neighbours::Neighbours;
-use crate::place::{LEAST_BYTES, MOST_BYTES, value_of};
+use crate::path::Step;
+use crate::place::{LEAST_BYTES, value_of};
 use crate::plan::{Plan, Writes, plan_edit, plan_gone, plan_node};
-use crate::way::Step;
 use sea_base::{Duplicate, Laddr, NoMemory, Space, SpaceFault};
-use sea_node::Node;
+use sea_node::{Node, ROOM_BYTES};
 use std::alloc::Global;
 
-/// Plans to write a node below the root with its edit, or to split it, or to even it out with a neighbour.
-/// Answers what is left to do in its parent.
-pub(crate) fn settle<S: Space>(
+/// Plans to write a node below the root with its edit, or to split it, or to merge it with a
+/// neighbour, or to redistribute the entries of both. Answers what is left to do in its parent.
+pub(crate) fn rebalance<S: Space>(
     alloc: Global,
     space: &mut S,
     plan: &mut Plan,
@@ -47,13 +47,17 @@ pub(crate) fn settle<S: Space>(
     requires known { IsKnown (S.seen space.old) at.0 }
     requires first { plan.old.splice ≡ None }
     requires child { IsNearChild parent.now node.now.level at.0 (after_edit edit node.now.entries) }
-    ensures settled { IfOk result (λ left. (changes : List Change) × (plan_changes plan.new ≡ changes ++ plan_changes plan.old)
-        × Settled node.now.level at.0 (after_edit edit node.now.entries) parent.now (S.seen space.old) (S.seen space.new) changes left) }
+    ensures rebalanced { IfOk result (λ left. (changes : List Change)
+        × (plan_changes plan.new ≡ changes ++ plan_changes plan.old)
+        × Rebalanced node.now.level at.0 (after_edit edit node.now.entries) parent.now
+        (S.seen space.old) (S.seen space.new) changes left) }
     ensures few { OnOk result (plan_fills plan.new ≤ plan_fills plan.old + 2) }
     ensures spliced { OnOk result (CanSplice (S.seen space.new) plan.new) }
     ensures last { IfOk result (λ left. IfSome left (λ edit. plan.new.splice ≡ None)) }
-    ensures fault { IfErr result (IsSettleFault node.now.level parent.now (S.seen space.old) (S.seen space.new)) }
-    ensures within { OnOk result (ReadsChild parent.now.node.entries (S.seen space.old) (S.seen space.new)) }
+    ensures fault { IfErr result (IsRebalanceFault node.now.level parent.now (S.seen space.old)
+        (S.seen space.new)) }
+    ensures within { OnOk result (ReadsChild parent.now.node.entries (S.seen space.old)
+        (S.seen space.new)) }
     ensures reads { OnOk result (Does [] (S.seen space.old) (S.seen space.new)) }
     ensures unchanged { IfErr result (IsUnchanged (S.seen space.old) (S.seen space.new)) }
     ensures rises { (S.seen space.old).next ≤ (S.seen space.new).next }
@@ -65,18 +69,19 @@ pub(crate) fn settle<S: Space>(
         entries: edit.applied(alloc, node.entries.items())?,
     };
     let bytes = size_of(edited.entries.items());
-    if bytes > MOST_BYTES {
+    if bytes > ROOM_BYTES {
         return Ok(Some(split(alloc, space, &mut plan.writes, at, &edited)?));
     }
     if bytes < LEAST_BYTES as usize {
         let pair = Neighbours::of(alloc, space, parent, at, &edited)?;
-        return Ok(even_out(alloc, &mut plan.writes, pair)?);
+        return Ok(merge_or_redistribute(alloc, &mut plan.writes, pair)?);
     }
     plan_edit(alloc, plan, at, node, edit, &edited)?;
     Ok(None)
 }
 
-// Plans to write the two halves of a node, the second at a fresh address, of which the parent is to hear.
+// Plans to write the two halves of a node, the second at a fresh address, of which the parent is to
+// hear.
 fn split<S: Space>(
     alloc: Global,
     space: &mut S,
@@ -87,9 +92,11 @@ fn split<S: Space>(
     requires ready { IsReady S.Space space.old }
     requires room { (S.seen space.old).next < 2 ^ 62 + 2 ^ 47 }
     requires near { (bounds : Asked) × IsNearPlace node.now.level bounds node.now.entries }
-    requires large { 4064 < size node.now.entries }
-    ensures split { IfOk result (λ left. (changes : List Change) × (changes_of writes.new ≡ changes ++ changes_of writes.old)
-        × SplitsInTwo node.now.level at.0 node.now.entries (S.seen space.old) (S.seen space.new) changes (Some left)) }
+    requires large { ROOM_BYTES < size node.now.entries }
+    ensures split { IfOk result (λ left. (changes : List Change)
+        × (changes_of writes.new ≡ changes ++ changes_of writes.old)
+        × SplitsInTwo node.now.level at.0 node.now.entries (S.seen space.old)
+        (S.seen space.new) changes (Some left)) }
     ensures few { OnOk result (count_filled writes.new ≡ count_filled writes.old + 2) }
     ensures memory { IfErr result (λ fault. fault ≡ OutOfMemory) }
     ensures unread { OnOk result (ReadsNothing (S.seen space.old) (S.seen space.new)) }
@@ -108,15 +115,21 @@ fn split<S: Space>(
     })
 }
 
-// Plans to write two neighbours as one node, or to cut their entries anew.
-fn even_out(alloc: Global, writes: &mut Writes, pair: Neighbours) -> Result<Option<Edit>, NoMemory>
+// Plans to write two neighbours as one node, or to redistribute their entries.
+fn merge_or_redistribute(
+    alloc: Global,
+    writes: &mut Writes,
+    pair: Neighbours,
+) -> Result<Option<Edit>, NoMemory>
     requires near { (bounds : Asked) × IsNearPlace pair.both.level bounds pair.both.entries }
-    requires filled { 1016 ≤ size pair.both.entries }
-    ensures evened { IfOk result (λ left. Joined pair (changes_of writes.old) (changes_of writes.new) left ⊎ CutAnew pair (changes_of writes.old) (changes_of writes.new) left) }
+    requires filled { LEAST_BYTES ≤ size pair.both.entries }
+    ensures rebalanced { IfOk result
+        (λ left. Merged pair (changes_of writes.old) (changes_of writes.new) left
+        ⊎ Redistributed pair (changes_of writes.old) (changes_of writes.new) left) }
     ensures few { OnOk result (count_filled writes.new ≤ count_filled writes.old + 2) }
 {
-    if size_of(pair.both.entries.items()) > MOST_BYTES {
-        return cut_anew(alloc, writes, pair);
+    if size_of(pair.both.entries.items()) > ROOM_BYTES {
+        return redistribute(alloc, writes, pair);
     }
     plan_node(alloc, writes, pair.left, &pair.both)?;
     plan_gone(writes, pair.right)?;
@@ -126,12 +139,16 @@ fn even_out(alloc: Global, writes: &mut Writes, pair: Neighbours) -> Result<Opti
     }))
 }
 
-// Plans to write two neighbours with their entries cut anew. The parent is to hear of the second one's key,
-// where it is another.
-fn cut_anew(alloc: Global, writes: &mut Writes, pair: Neighbours) -> Result<Option<Edit>, NoMemory>
+// Plans to write two neighbours with their entries redistributed. The parent is to hear of the
+// second one's key, where it is another.
+fn redistribute(
+    alloc: Global,
+    writes: &mut Writes,
+    pair: Neighbours,
+) -> Result<Option<Edit>, NoMemory>
     requires near { (bounds : Asked) × IsNearPlace pair.both.level bounds pair.both.entries }
-    requires large { 4064 < size pair.both.entries }
-    ensures cut { IfOk result (CutAnew pair (changes_of writes.old) (changes_of writes.new)) }
+    requires large { ROOM_BYTES < size pair.both.entries }
+    ensures cut { IfOk result (Redistributed pair (changes_of writes.old) (changes_of writes.new)) }
     ensures few { OnOk result (count_filled writes.new ≡ count_filled writes.old + 2) }
 {
     let (front, back) = halves(alloc, &pair.both)?;

@@ -207,22 +207,22 @@ module _ (was is is' : Store) (level top : ℕ) (bounds : Bounds) (a : List Entr
       (put_node is' level x (child_bounds one b bounds.upper) entries puts.first (IsNode-filled level (child_bounds one b bounds.upper) entries whole_near (p.filled, room)) (IsInPlace-near level (child_bounds one b bounds.upper) entries whole_near p.filled))
       (Below-kept is is' level entries (next_key b bounds.upper) p.new_pairs p.new_nodes (put_below was is is' level top bounds a one two b x y entries aim p free (Some (node_bytes level entries)) None puts) p.below_is)
 
-  joined_below : AllBelow (Holds is' level) (a ++ (one ∷ b)) bounds.upper (p.beside.pairs_a ++ (p.new_pairs ++ p.beside.pairs_b)) (p.beside.nodes_a ++ ((x ∷ p.new_nodes) ++ p.beside.nodes_b))
-  joined_below =
+  merged_below : AllBelow (Holds is' level) (a ++ (one ∷ b)) bounds.upper (p.beside.pairs_a ++ (p.new_pairs ++ p.beside.pairs_b)) (p.beside.nodes_a ++ ((x ∷ p.new_nodes) ++ p.beside.nodes_b))
+  merged_below =
       let kept = put_kept was is is' level top bounds a one two b x y entries aim p free (Some (node_bytes level entries)) None puts in
       AllBelow-around (Holds is' level) a one b bounds.upper x p.beside.pairs_a p.new_pairs p.beside.pairs_b p.beside.nodes_a (x ∷ p.new_nodes) p.beside.nodes_b
       (AllBelow-kept was is' level a (Some one.0) p.beside.pairs_a p.beside.nodes_a kept.0 p.beside.below_a) p.beside.one_address whole_held (AllBelow-kept was is' level b bounds.upper p.beside.pairs_b p.beside.nodes_b kept.1 p.beside.below_b)
 
-  near_joined : IsNearPlace (suc level) bounds (edited two.0 None (a ++ (one ∷ (two ∷ b))))
-  near_joined =
+  near_merged : IsNearPlace (suc level) bounds (edited two.0 None (a ++ (one ∷ (two ∷ b))))
+  near_merged =
       let below = second_below was level top bounds a one two b x y p.beside in
       IsNearPlace-edited (suc level) bounds two.0 None (a ++ (one ∷ (two ∷ b))) p.beside.node.0.spells.node p.beside.node.1 (second_name was level top bounds a one two b x y p.beside) tt (IsNotAbove-below bounds.lower two.0 below) (second_within was level top bounds a one two b x y p.beside) (λ h. (below, tt))
 
-  pub joined : Mending was is' (suc level) top bounds (a ++ (one ∷ (two ∷ b))) (edited two.0 None (a ++ (one ∷ (two ∷ b)))) aim
-  joined =
+  pub merged : Mending was is' (suc level) top bounds (a ++ (one ∷ (two ∷ b))) (edited two.0 None (a ++ (one ∷ (two ∷ b)))) aim
+  merged =
       put_mended was is is' level top bounds a one two b x y entries aim p free (Some (node_bytes level entries)) None puts (edited two.0 None (a ++ (one ∷ (two ∷ b)))) (x ∷ p.new_nodes)
-      (subst (λ (es : List Entry). AllBelow (Holds is' level) es bounds.upper (p.beside.pairs_a ++ (p.new_pairs ++ p.beside.pairs_b)) (p.beside.nodes_a ++ ((x ∷ p.new_nodes) ++ p.beside.nodes_b))) (sym (second_lost was level top bounds a one two b x y p.beside)) joined_below)
-      near_joined
+      (subst (λ (es : List Entry). AllBelow (Holds is' level) es bounds.upper (p.beside.pairs_a ++ (p.new_pairs ++ p.beside.pairs_b)) (p.beside.nodes_a ++ ((x ∷ p.new_nodes) ++ p.beside.nodes_b))) (sym (second_lost was level top bounds a one two b x y p.beside)) merged_below)
+      near_merged
       (λ q c. elim (Contains-cases x p.new_nodes q c) [
         | inl same ↦ inl (subst (Contains (both x p.beside.nodes_one y p.beside.nodes_two)) same (both_first x p.beside.nodes_one y p.beside.nodes_two))
         | inr later ↦ put_among was is is' level top bounds a one two b x y entries aim p free (Some (node_bytes level entries)) None puts q later
@@ -236,6 +236,6 @@ module _ (was is is' : Store) (level top : ℕ) (bounds : Bounds) (a : List Entr
 
 -- Two adjacent children become one: the left one takes all entries, the right one goes, and the node above loses
 -- the entry that led there.
-pub join_mended : (was is is' : Store) (level top : ℕ) (bounds : Bounds) (a : List Entry) (one two : Entry) (b : List Entry) (x y : ℕ) (entries : List Entry) (aim : Aim) → Paired was is level top bounds a one two b x y entries aim → IsFree was aim → size entries ≤ 4064 → ((q : ℕ) → is' q ≡ overlaid ((y, None) ∷ (x, Some (node_bytes level entries)) ∷ []) is q) → Mending was is' (suc level) top bounds (a ++ (one ∷ (two ∷ b))) (edited two.0 None (a ++ (one ∷ (two ∷ b)))) aim
-join_mended was is is' level top bounds a one two b x y entries aim p free room same =
-    joined was is is' level top bounds a one two b x y entries aim p free room (puts_turned (puts_two is is' y None x (Some (node_bytes level entries)) (beside_differ was level top bounds a one two b x y p.beside) same))
+pub merge_mended : (was is is' : Store) (level top : ℕ) (bounds : Bounds) (a : List Entry) (one two : Entry) (b : List Entry) (x y : ℕ) (entries : List Entry) (aim : Aim) → Paired was is level top bounds a one two b x y entries aim → IsFree was aim → size entries ≤ 4064 → ((q : ℕ) → is' q ≡ overlaid ((y, None) ∷ (x, Some (node_bytes level entries)) ∷ []) is q) → Mending was is' (suc level) top bounds (a ++ (one ∷ (two ∷ b))) (edited two.0 None (a ++ (one ∷ (two ∷ b)))) aim
+merge_mended was is is' level top bounds a one two b x y entries aim p free room same =
+    merged was is is' level top bounds a one two b x y entries aim p free room (puts_turned (puts_two is is' y None x (Some (node_bytes level entries)) (beside_differ was level top bounds a one two b x y p.beside) same))

@@ -1,10 +1,10 @@
-//! The way from the root of a tree to a leaf.
+//! The path from the root of a tree to a leaf.
 ghost use Rattle.std.specs.Prelude.{◌≡◌, ℕ, ◌+◌, ◌<◌, ◌≤◌, None, IsTrue, MatchOption, IfOk, IfSome, IfNone, IfErr, OnOk, List};
 ghost use Rattle.sea_base.specs.Space.{IsKnown, OnlyRead};
-ghost use Rattle.sea_tree.specs.Calls.{IsWayFault, IsWholeWay};
-ghost use Rattle.sea_tree.specs.Reads.{ReadsWay, ReadsNothing};
-ghost use Rattle.sea_tree.specs.Range.{IsNextWay};
-ghost use Rattle.sea_tree.specs.Way.{IsKnownWay};
+ghost use Rattle.sea_tree.specs.Calls.{IsPathFault, IsWholePath};
+ghost use Rattle.sea_tree.specs.Reads.{ReadsPath, ReadsNothing};
+ghost use Rattle.sea_tree.specs.Range.{IsNextPath};
+ghost use Rattle.sea_tree.specs.Path.{IsKnownPath};
 ghost use Rattle.sea_base.specs.Ghosts.{IsReady, IsCall};
 ghost use Rattle.sea_tree.specs.Calls.{space_fault};
 
@@ -16,14 +16,14 @@ use smallvec::SmallVec;
 use std::alloc::Global;
 use std::default::MadeWith;
 
-/// A node above the leaves on the way to a key.
+/// A node above the leaves on the path to a key.
 #[derive(Drop)]
 pub(crate) struct Step {
     /// Its address.
     pub at: Laddr,
     /// The node.
     pub node: Node,
-    /// The index of the entry whose child is next on the way.
+    /// The index of the entry whose child is next on the path.
     pub index: usize,
     /// Its own upper bound.
     pub upper: Option<Key>,
@@ -43,33 +43,35 @@ impl MadeWith<Global> for Step {
     }
 }
 
-/// The way from a root down to a node, by the last separators that are not above a key.
+/// The path from a root down to a node, by the last separators that are not above a key.
 #[derive(Drop)]
-pub(crate) struct Way {
+pub(crate) struct Path {
     /// The nodes above, the root first.
     pub steps: SmallVec<Step, 8>,
     /// The address of the last node.
     pub at: Laddr,
-    /// The last node, which is a leaf at the way's end.
+    /// The last node, which is a leaf at the path's end.
     pub leaf: Node,
     /// Its bounds.
     pub bounds: Bounds,
 }
 
-/// The way from a root to the leaf that a key leads to. There is none in an empty tree.
-pub(crate) fn way_to<S: Space>(
+/// The path from a root to the leaf that a key leads to. There is none in an empty tree.
+pub(crate) fn path_to<S: Space>(
     alloc: Global,
     space: &mut S,
     root: Laddr,
     key: &Key,
-) -> Result<Option<Way>, TreeFault>
+) -> Result<Option<Path>, TreeFault>
     requires { IsReady S.Space space.old }
-    ensures way { IfOk result (λ found. IfSome found (IsKnownWay (S.seen space.new) root.0 key.now)) }
+    ensures path { IfOk result
+        (λ found. IfSome found (IsKnownPath (S.seen space.new) root.0 key.now)) }
     ensures none { IfOk result (λ found. IfNone found ((S.seen space.new).view root.0 ≡ None)) }
     ensures known { OnOk result (IsKnown (S.seen space.new) root.0) }
-    ensures whole { OnOk result (IsWholeWay root.0 key.now (S.seen space.old) (S.seen space.new)) }
-    ensures fault { IfErr result (IsWayFault root.0 key.now (S.seen space.old) (S.seen space.new)) }
-    ensures within { ReadsWay root.0 key.now (S.seen space.old) (S.seen space.new) }
+    ensures whole { OnOk result (IsWholePath root.0 key.now (S.seen space.old) (S.seen space.new)) }
+    ensures fault { IfErr result
+        (IsPathFault root.0 key.now (S.seen space.old) (S.seen space.new)) }
+    ensures within { ReadsPath root.0 key.now (S.seen space.old) (S.seen space.new) }
     ensures reads { OnlyRead (S.seen space.old) (S.seen space.new) }
     ensures call { IsCall S.Space space.old space.new (space_fault result) }
 {
@@ -96,7 +98,7 @@ pub(crate) fn way_to<S: Space>(
         node = next;
         bounds = below;
     }
-    Ok(Some(Way {
+    Ok(Some(Path {
         steps,
         at,
         leaf: node,
@@ -104,25 +106,30 @@ pub(crate) fn way_to<S: Space>(
     }))
 }
 
-/// The way to the leaf after that of another way. There is none after the last.
-pub(crate) fn way_after<S: Space>(
+/// The path to the leaf after that of another path. There is none after the last.
+pub(crate) fn path_after<S: Space>(
     alloc: Global,
     space: &mut S,
     root: Laddr,
-    way: &Way,
-) -> Result<Option<Way>, TreeFault>
+    path: &Path,
+) -> Result<Option<Path>, TreeFault>
     requires ready { IsReady S.Space space.old }
-    requires way { (key : List ℕ) × IsKnownWay (S.seen space.old) root.0 key way.now }
-    ensures next { IfOk result (λ found. IfSome found (IsNextWay (S.seen space.new) root.0 way.now)) }
-    ensures none { IfOk result (λ found. IfNone found (way.now.bounds.upper ≡ None)) }
-    ensures fault { IfErr result (λ fault. MatchOption way.now.bounds.upper ⊥ (λ upper. IsWayFault root.0 upper (S.seen space.old) (S.seen space.new) fault)) }
-    ensures within { MatchOption way.now.bounds.upper (ReadsNothing (S.seen space.old) (S.seen space.new)) (λ upper. ReadsWay root.0 upper (S.seen space.old) (S.seen space.new)) }
+    requires path { (key : List ℕ) × IsKnownPath (S.seen space.old) root.0 key path.now }
+    ensures next { IfOk result
+        (λ found. IfSome found (IsNextPath (S.seen space.new) root.0 path.now)) }
+    ensures none { IfOk result (λ found. IfNone found (path.now.bounds.upper ≡ None)) }
+    ensures fault { IfErr result (λ fault.
+        MatchOption path.now.bounds.upper ⊥
+        (λ upper. IsPathFault root.0 upper (S.seen space.old) (S.seen space.new) fault)) }
+    ensures within { MatchOption path.now.bounds.upper
+        (ReadsNothing (S.seen space.old) (S.seen space.new))
+        (λ upper. ReadsPath root.0 upper (S.seen space.old) (S.seen space.new)) }
     ensures reads { OnlyRead (S.seen space.old) (S.seen space.new) }
     ensures call { IsCall S.Space space.old space.new (space_fault result) }
 {
-    let Some(upper) = &way.bounds.upper else {
+    let Some(upper) = &path.bounds.upper else {
         return Ok(None);
     };
-    let next = way_to(alloc, space, root, upper)?;
+    let next = path_to(alloc, space, root, upper)?;
     Ok(next)
 }

@@ -2,14 +2,14 @@ use Rattle.sea_base.proofs.Calling.{call_spent, call_then}
 use Rattle.std.proofs.Common.{◌≡◌, ◌-◌, ℕ, refl, sym, ap, subst, ◌∙◌, arith}
 use Rattle.std.proofs.lemmas.Result.{err_from_is_err_and}
 use Rattle.sea_base.proofs.Spaces.{only_read-trans, known_later}
-use Rattle.sea_tree.specs.declared.way.Step.{Step}
-use Rattle.sea_tree.specs.declared.way.Way.{Way}
+use Rattle.sea_tree.specs.declared.path.Step.{Step}
+use Rattle.sea_tree.specs.declared.path.Path.{Path}
 use Rattle.sea_tree.specs.Tree.{child_bounds}
 use Rattle.sea_tree.specs.Place.{meant}
-use Rattle.sea_tree.specs.Way.{ComesDown, IsKnownWay}
-use Rattle.sea_tree.proofs.OnWays.{reads_root, reads_further, step_on_way}
-use Rattle.sea_tree.proofs.WaySteps.{root_fault, comes_first, step_fault, is_step, comes_further, whole_way}
-use Rattle.sea_tree.proofs.way.way_to.Goals as goal
+use Rattle.sea_tree.specs.Path.{ComesDown, IsKnownPath}
+use Rattle.sea_tree.proofs.OnPaths.{reads_root, reads_further, step_on_path}
+use Rattle.sea_tree.proofs.PathSteps.{root_fault, comes_first, step_fault, is_step, comes_further, whole_path}
+use Rattle.sea_tree.proofs.path.path_to.Goals as goal
 
 pub returns-in_err-node-clause-fault : goal.returns-in_err-node-clause-fault
 returns-in_err-node-clause-fault g c =
@@ -50,7 +50,7 @@ down-preserved g c =
       down = subst (λ (l : ℕ). ComesDown (g.S.Space.seen c.node_at.new.space) c.args.root.0 c.args.key.now c.push.new.self.items l c.child_at-child.result.0 (meant c.in_ok-below.below) c.in_ok-next.next.entries) (sym c.in_ok-next.ensures.level) down;
       root = known_later c.node_at.ensures.reads c.args.root.0 before.root;
       within = reads_further c.args.root.0 c.args.key.now c.child_at-child.result.0 (g.S.Space.seen c.args.space.now) (g.S.Space.seen c.down.space) (g.S.Space.seen c.node_at.new.space) before.within c.node_at.ensures.one
-          (step_on_way (g.S.Space.seen c.args.space.now) (g.S.Space.seen c.node_at.new.space) c.args.root.0 c.args.key.now (only_read-trans before.reads c.node_at.ensures.reads) (g.met.S.Space.sound c.node_at.new.space) c.down.steps.items (c.down.node.level - 1) c.down.at.0 (meant c.down.bounds) step c.child_at-child.result.0 (meant c.in_ok-below.below) here);
+          (step_on_path (g.S.Space.seen c.args.space.now) (g.S.Space.seen c.node_at.new.space) c.args.root.0 c.args.key.now (only_read-trans before.reads c.node_at.ensures.reads) (g.met.S.Space.sound c.node_at.new.space) c.down.steps.items (c.down.node.level - 1) c.down.at.0 (meant c.down.bounds) step c.child_at-child.result.0 (meant c.in_ok-below.below) here);
       reads = only_read-trans before.reads c.node_at.ensures.reads;
       call = call_then g.S.Space g.met.S.Space.frame before.call c.in_ok-next.ensures.call;
     }
@@ -59,13 +59,13 @@ pub returns-clause-whole : goal.returns-clause-whole
 returns-clause-whole g c =
     let end = c.down.invariant in
     let seen = g.S.Space.seen c.down.space in
-    let way : Way = record { steps = c.down.steps; at = c.down.at; leaf = c.down.node; bounds = c.down.bounds } in
+    let path : Path = record { steps = c.down.steps; at = c.down.at; leaf = c.down.node; bounds = c.down.bounds } in
     let level : c.down.node.level ≡ 0 = omega (arith, c.down-test.false) in
-    let known : IsKnownWay seen c.args.root.0 c.args.key.now way = record {
+    let known : IsKnownPath seen c.args.root.0 c.args.key.now path = record {
       leaf_level = level;
       down = subst (λ (l : ℕ). ComesDown (g.S.Space.seen c.down.space) c.args.root.0 c.args.key.now c.down.steps.items l c.down.at.0 (meant c.down.bounds) c.down.node.entries) level end.down;
     } in
-    whole_way (g.S.Space.seen c.args.space.now) seen c.args.root.0 c.args.key.now way end.reads (g.met.S.Space.sound c.down.space) known
+    whole_path (g.S.Space.seen c.args.space.now) seen c.args.root.0 c.args.key.now path end.reads (g.met.S.Space.sound c.down.space) known
 
 pub returns-in_err-next-clause-within : goal.returns-in_err-next-clause-within
 returns-in_err-next-clause-within g c =
@@ -73,7 +73,7 @@ returns-in_err-next-clause-within g c =
     let step : Step = record { at = c.down.at; node = c.down.node; index = c.index_towards-index.result; upper = c.down.bounds.upper } in
     let here = is_step (g.S.Space.seen c.down.space) (g.S.Space.seen c.node_at.new.space) c.args.root.0 c.args.key.now c.down.steps.items c.down.at.0 (meant c.down.bounds) step c.child_at-child.result.0 (meant c.in_ok-below.below) c.node_at.ensures.reads before.down c.down-test.true refl refl c.index_towards-index.ensures.within c.index_towards-index.ensures.leads c.child_at-child.ensures (λ b a e split. c.in_ok-below.ensures b a e split ∙ ap (child_bounds e a) c.as_ref.ensures.value) in
     reads_further c.args.root.0 c.args.key.now c.child_at-child.result.0 (g.S.Space.seen c.args.space.now) (g.S.Space.seen c.down.space) (g.S.Space.seen c.node_at.new.space) before.within c.node_at.ensures.one
-    (step_on_way (g.S.Space.seen c.args.space.now) (g.S.Space.seen c.node_at.new.space) c.args.root.0 c.args.key.now (only_read-trans before.reads c.node_at.ensures.reads) (g.met.S.Space.sound c.node_at.new.space) c.down.steps.items (c.down.node.level - 1) c.down.at.0 (meant c.down.bounds) step c.child_at-child.result.0 (meant c.in_ok-below.below) here)
+    (step_on_path (g.S.Space.seen c.args.space.now) (g.S.Space.seen c.node_at.new.space) c.args.root.0 c.args.key.now (only_read-trans before.reads c.node_at.ensures.reads) (g.met.S.Space.sound c.node_at.new.space) c.down.steps.items (c.down.node.level - 1) c.down.at.0 (meant c.down.bounds) step c.child_at-child.result.0 (meant c.in_ok-below.below) here)
 
 pub returns-in_err-push-clause-within : goal.returns-in_err-push-clause-within
 returns-in_err-push-clause-within g c =
@@ -81,7 +81,7 @@ returns-in_err-push-clause-within g c =
     let step : Step = record { at = c.down.at; node = c.down.node; index = c.index_towards-index.result; upper = c.down.bounds.upper } in
     let here = is_step (g.S.Space.seen c.down.space) (g.S.Space.seen c.node_at.new.space) c.args.root.0 c.args.key.now c.down.steps.items c.down.at.0 (meant c.down.bounds) step c.child_at-child.result.0 (meant c.in_ok-below.below) c.node_at.ensures.reads before.down c.down-test.true refl refl c.index_towards-index.ensures.within c.index_towards-index.ensures.leads c.child_at-child.ensures (λ b a e split. c.in_ok-below.ensures b a e split ∙ ap (child_bounds e a) c.as_ref.ensures.value) in
     reads_further c.args.root.0 c.args.key.now c.child_at-child.result.0 (g.S.Space.seen c.args.space.now) (g.S.Space.seen c.down.space) (g.S.Space.seen c.node_at.new.space) before.within c.node_at.ensures.one
-    (step_on_way (g.S.Space.seen c.args.space.now) (g.S.Space.seen c.node_at.new.space) c.args.root.0 c.args.key.now (only_read-trans before.reads c.node_at.ensures.reads) (g.met.S.Space.sound c.node_at.new.space) c.down.steps.items (c.down.node.level - 1) c.down.at.0 (meant c.down.bounds) step c.child_at-child.result.0 (meant c.in_ok-below.below) here)
+    (step_on_path (g.S.Space.seen c.args.space.now) (g.S.Space.seen c.node_at.new.space) c.args.root.0 c.args.key.now (only_read-trans before.reads c.node_at.ensures.reads) (g.met.S.Space.sound c.node_at.new.space) c.down.steps.items (c.down.node.level - 1) c.down.at.0 (meant c.down.bounds) step c.child_at-child.result.0 (meant c.in_ok-below.below) here)
 
 pub returns-in_err-node-clause-within : goal.returns-in_err-node-clause-within
 returns-in_err-node-clause-within g c = reads_root c.args.root.0 c.args.key.now (g.S.Space.seen c.args.space.now) (g.S.Space.seen c.root_at.new.space) c.in_err-node.ensures.one

@@ -5,12 +5,12 @@ use Rattle.sea_tree.specs.Tree.{Bounds}
 use Rattle.sea_tree.specs.Does.{Change}
 use Rattle.sea_tree.specs.Plan.{changes_of}
 use Rattle.sea_tree.specs.Mending.{after_edit, IsNearPlace}
-use Rattle.sea_tree.specs.Settled.{AreNeighbours}
+use Rattle.sea_tree.specs.Rebalanced.{AreNeighbours}
 use Rattle.sea_tree.proofs.MendNear.{IsNode-filled}
 use Rattle.sea_tree.proofs.Performing.{unspliced}
 use Rattle.sea_tree.proofs.Nears.{unread_child, unread_here}
-use Rattle.sea_tree.proofs.Settles.{some_near, joins, cuts}
-use Rattle.sea_tree.proofs.settling.settle.Goals as goal
+use Rattle.sea_tree.proofs.Rebalances.{some_near, merges, redistributes}
+use Rattle.sea_tree.proofs.rebalancing.rebalance.Goals as goal
 
 pub size_of-bytes-requires : goal.size_of-bytes-requires
 size_of-bytes-requires g c =
@@ -36,25 +36,25 @@ plan_edit-requires-clause-edited g c =
     let near = some_near c.args.parent.now level c.args.at.0 (after_edit c.args.edit es) c.requires.index c.requires.child in
     let bytes = ap size c.items-2.ensures in
     let filled : 1016 ≤ size c.in_ok-applied.field-0 = omega (arith, c.if-bytes.false, c.size_of-bytes.ensures, bytes) in
-    let room : size c.in_ok-applied.field-0 ≤ 4064 = omega (arith, c.if-bytes-gt-MOST_BYTES.false, c.size_of-bytes.ensures, bytes) in
+    let room : size c.in_ok-applied.field-0 ≤ 4064 = omega (arith, c.if-bytes-gt-ROOM_BYTES.false, c.size_of-bytes.ensures, bytes) in
     IsNode-filled level near.0 c.in_ok-applied.field-0 (subst (IsNearPlace level near.0) (sym same) near.1) (filled, room)
 
-pub returns-clause-settled : goal.returns-clause-settled
-returns-clause-settled g c =
+pub returns-clause-rebalanced : goal.returns-clause-rebalanced
+returns-clause-rebalanced g c =
     let es : List Entry = c.args.node.now.entries in
     let level = c.args.node.now.level in
     let at = c.args.at.0 in
     let same : c.in_ok-applied.field-0 ≡ after_edit c.args.edit es = c.in_ok-applied.ensures ∙ ap (after_edit c.args.edit) c.items.ensures in
     let bytes = ap size c.items-2.ensures in
     let filled : 1016 ≤ size (after_edit c.args.edit es) = omega (arith, c.if-bytes.false, c.size_of-bytes.ensures, bytes, ap size same) in
-    let room : size (after_edit c.args.edit es) ≤ 4064 = omega (arith, c.if-bytes-gt-MOST_BYTES.false, c.size_of-bytes.ensures, bytes, ap size same) in (
+    let room : size (after_edit c.args.edit es) ≤ 4064 = omega (arith, c.if-bytes-gt-ROOM_BYTES.false, c.size_of-bytes.ensures, bytes, ap size same) in (
       (at, Some (node_bytes level c.in_ok-applied.field-0)) ∷ [],
       c.in_ok-plan_edit.ensures.planned,
       inl (record { filled = filled; room = room; planned = λ j. (at, Some (node_bytes level (same j))) ∷ []; next = refl; nothing = refl }),
     )
 
-pub returns-then-bytes-clause-settled : goal.returns-then-bytes-clause-settled
-returns-then-bytes-clause-settled g c =
+pub returns-then-bytes-clause-rebalanced : goal.returns-then-bytes-clause-rebalanced
+returns-then-bytes-clause-rebalanced g c =
     let es : List Entry = after_edit c.args.edit c.args.node.now.entries in
     let level = c.args.node.now.level in
     let at = c.args.at.0 in
@@ -62,14 +62,14 @@ returns-then-bytes-clause-settled g c =
     let old = g.S.Space.seen c.args.space.now in
     let new = g.S.Space.seen c.of.new.space in
     let held = c.in_ok-pair.pair in
-    let left = c.in_ok-even_out.field-0 in
+    let left = c.in_ok-merge_or_redistribute.field-0 in
     let before : List Change = changes_of c.args.plan.now.writes in
-    let after : List Change = changes_of c.even_out.new.writes in
+    let after : List Change = changes_of c.merge_or_redistribute.new.writes in
     let same : c.in_ok-applied.field-0 ≡ es = c.in_ok-applied.ensures ∙ ap (after_edit c.args.edit) c.items.ensures in
     let are : AreNeighbours level at es parent old new held = subst (λ (fs : List Entry). AreNeighbours level at fs parent old new held) same c.in_ok-pair.ensures.held in
-    elim c.in_ok-even_out.ensures.evened [
-      | inl joined ↦ (let planned = joins level at es parent old new held before after left are joined c.of.ensures.reads.next in (planned.0, unspliced c.args.plan.now.splice after before planned.0 c.requires.first planned.1, inr (inr (inl planned.2))))
-      | inr cut ↦ (let planned = cuts level at es parent old new held before after left are cut c.of.ensures.reads.next in (planned.0, unspliced c.args.plan.now.splice after before planned.0 c.requires.first planned.1, inr (inr (inr planned.2))))
+    elim c.in_ok-merge_or_redistribute.ensures.rebalanced [
+      | inl merged ↦ (let planned = merges level at es parent old new held before after left are merged c.of.ensures.reads.next in (planned.0, unspliced c.args.plan.now.splice after before planned.0 c.requires.first planned.1, inr (inr (inl planned.2))))
+      | inr cut ↦ (let planned = redistributes level at es parent old new held before after left are cut c.of.ensures.reads.next in (planned.0, unspliced c.args.plan.now.splice after before planned.0 c.requires.first planned.1, inr (inr (inr planned.2))))
     ]
 
 pub returns-clause-within : goal.returns-clause-within

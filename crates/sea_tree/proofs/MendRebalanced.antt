@@ -1,4 +1,4 @@
--- What settling a node leaves to its parent is the mending of the parent.
+-- What rebalancing a node leaves to its parent is the mending of the parent.
 use Rattle.std.proofs.Common.{◌≡◌, ◌⊎◌, ℕ, suc, ◌+◌, ◌<◌, ◌≤◌, ◌^◌, List, [], ◌∷◌, ◌++◌, length, drop, get_or, Option, Some, None, refl, sym, ap, subst, ◌∙◌, inl, inr, arith, append_assoc, length-append}
 use Rattle.sea_base.specs.Field.{big_endian}
 use Rattle.sea_base.specs.Space.{Store, Seen, Agrees, laid}
@@ -8,12 +8,12 @@ use Rattle.sea_node.specs.Entries.{Entry, size}
 use Rattle.sea_node.specs.Node.{IsNode, node_bytes}
 use Rattle.sea_tree.specs.declared.edit.Edit.{Edit}
 use Rattle.sea_tree.specs.declared.edit.Edit.TheVariants.{Pair, Moved}
-use Rattle.sea_tree.specs.declared.way.Step.{Step}
+use Rattle.sea_tree.specs.declared.path.Step.{Step}
 use Rattle.sea_tree.specs.Tree.{Bounds, first_key, child_bounds}
 use Rattle.sea_tree.specs.Breaks.{HasNode}
 use Rattle.sea_tree.specs.Does.{Change, overlaid}
-use Rattle.sea_tree.specs.Way.{StepsDown}
-use Rattle.sea_tree.specs.Settled.{Fits, Neighbours, Joins, Cuts, Settled}
+use Rattle.sea_tree.specs.Path.{StepsDown}
+use Rattle.sea_tree.specs.Rebalanced.{Fits, Neighbours, Merges, Redistributes, Rebalanced}
 use Rattle.sea_tree.specs.Subtrees.{Holds}
 use Rattle.sea_tree.specs.Mending.{after_edit, IsNearPlace, Aim, Mending, Replaced, IsPart}
 use Rattle.sea_tree.proofs.Frames.{HasNode-kept}
@@ -21,7 +21,7 @@ use Rattle.sea_tree.proofs.Mending.{fits_replaced, up_replaced}
 use Rattle.sea_tree.proofs.MendNear.{IsNode-filled, halves, size-edited_inner, size-moved_inner}
 use Rattle.sea_tree.proofs.MendSplit.{IsFree, given_more, split_mended, split_puts}
 use Rattle.sea_tree.proofs.MendPair.{AreInPlace, Paired, pair_left, pair_right}
-use Rattle.sea_tree.proofs.MendJoin.{second_name, join_mended}
+use Rattle.sea_tree.proofs.MendMerge.{second_name, merge_mended}
 use Rattle.sea_tree.proofs.MendCut.{halves_placed, cut_mended, cut_replaced}
 
 -- The change is made below a node that is to have an edit still, or in its whole subtree, where none is left.
@@ -71,26 +71,26 @@ module _ (was is : Store) (level top : ℕ) (bounds : Bounds) (pairs : List Entr
             pair_left was is level top bounds pairs nodes n.before n.one n.two n.after n.one_at n.two_at aim holds (split_node n) n.one_address n.two_address free before n.one_entries n.two_entries here
             (read_node n.two_at (child_bounds n.two n.after) n.two_entries left.3)
         by_side (inr right) =
-            let joined : step.node.entries ≡ (n.before ++ (n.one ∷ [])) ++ (n.two ∷ n.after) = n.split ∙ sym (append_assoc n.before (n.one ∷ []) (n.two ∷ n.after)) in
-            let same = one_place down.before (n.before ++ (n.one ∷ [])) down.after n.after down.entry n.two (omega (arith, down.split.count, right.0, length-append n.before (n.one ∷ []))) (sym down.split.split ∙ joined) in
+            let merged : step.node.entries ≡ (n.before ++ (n.one ∷ [])) ++ (n.two ∷ n.after) = n.split ∙ sym (append_assoc n.before (n.one ∷ []) (n.two ∷ n.after)) in
+            let same = one_place down.before (n.before ++ (n.one ∷ [])) down.after n.after down.entry n.two (omega (arith, down.split.count, right.0, length-append n.before (n.one ∷ []))) (sym down.split.split ∙ merged) in
             let asked : below ≡ child_bounds n.two n.after bounds.upper = down.below_is ∙ (λ i. child_bounds (same.1 i) (same.2 i) bounds.upper) in
             let here : Mending was is level n.two_at (child_bounds n.two n.after bounds.upper) before n.two_entries aim = at_place was is level at n.two_at below (child_bounds n.two n.after bounds.upper) before entries n.two_entries aim right.2 asked right.3 m in
             pair_right was is level top bounds pairs nodes n.before n.one n.two n.after n.one_at n.two_at aim holds (split_node n) n.one_address n.two_address free before n.two_entries n.one_entries here
             (read_node n.one_at (child_bounds n.one (n.two ∷ n.after)) n.one_entries right.4)
 
     -- They become one.
-    pub joins_mended : (is' : Store) (changes : List Change) (left : Option Edit) → Joins level at entries step old new changes left → ((q : ℕ) → is' q ≡ overlaid changes is q) → IsMended was is' (suc level) top bounds step.node.entries aim left
-    joins_mended is' changes left j same =
+    pub merges_mended : (is' : Store) (changes : List Change) (left : Option Edit) → Merges level at entries step old new changes left → ((q : ℕ) → is' q ≡ overlaid changes is q) → IsMended was is' (suc level) top bounds step.node.entries aim left
+    merges_mended is' changes left j same =
         let n = j.pair in
         let whole = n.before ++ (n.one ∷ (n.two ∷ n.after)) in
-        let done : Mending was is' (suc level) top bounds whole (after_edit (Pair n.two.0 None) whole) aim = join_mended was is is' level top bounds n.before n.one n.two n.after n.one_at n.two_at (n.one_entries ++ n.two_entries) aim (neighbours_paired n) free j.room
+        let done : Mending was is' (suc level) top bounds whole (after_edit (Pair n.two.0 None) whole) aim = merge_mended was is is' level top bounds n.before n.one n.two n.after n.one_at n.two_at (n.one_entries ++ n.two_entries) aim (neighbours_paired n) free j.room
         (λ q. same q ∙ ap (λ (cs : List Change). overlaid cs is q) j.planned) in
         subst (IsMended was is' (suc level) top bounds step.node.entries aim) (sym j.parent_edit)
         (subst (λ (es : List Entry). Mending was is' (suc level) top bounds es (after_edit (Pair n.two.0 None) es) aim) (sym n.split) done)
 
-    -- They are cut anew.
-    pub cuts_mended : (is' : Store) (changes : List Change) (left : Option Edit) → Cuts level at entries step old new changes left → ((q : ℕ) → is' q ≡ overlaid changes is q) → IsMended was is' (suc level) top bounds step.node.entries aim left
-    cuts_mended is' changes left c same =
+    -- They are redistributed.
+    pub redistributes_mended : (is' : Store) (changes : List Change) (left : Option Edit) → Redistributes level at entries step old new changes left → ((q : ℕ) → is' q ≡ overlaid changes is q) → IsMended was is' (suc level) top bounds step.node.entries aim left
+    redistributes_mended is' changes left c same =
         let n = c.pair in
         let whole = n.before ++ (n.one ∷ (n.two ∷ n.after)) in
         let both = n.one_entries ++ n.two_entries in
@@ -115,8 +115,8 @@ module _ (was is : Store) (level top : ℕ) (bounds : Bounds) (pairs : List Entr
         (subst (λ (c : Bounds). Replaced was is' level level at c aim) down.below_is written) free)
 
     -- The parent's entries take 75 bytes more at most.
-    pub settled_grown : (changes : List Change) (left : Option Edit) (edit : Edit) → Settled level at entries step old new changes left → left ≡ Some edit → size (after_edit edit step.node.entries) ≤ size step.node.entries + 75
-    settled_grown changes left edit settled is = by_case settled
+    pub rebalanced_grown : (changes : List Change) (left : Option Edit) (edit : Edit) → Rebalanced level at entries step old new changes left → left ≡ Some edit → size (after_edit edit step.node.entries) ≤ size step.node.entries + 75
+    rebalanced_grown changes left edit rebalanced is = by_case rebalanced
       where
         node : IsNode (suc level) step.node.entries
         node = down.node.0.spells.node
@@ -124,7 +124,7 @@ module _ (was is : Store) (level top : ℕ) (bounds : Bounds) (pairs : List Entr
         same_edit : (e : Edit) → left ≡ Some e → e ≡ edit
         same_edit e here = let both : Some e ≡ Some edit = sym here ∙ is in cc
 
-        by_case : Settled level at entries step old new changes left → size (after_edit edit step.node.entries) ≤ size step.node.entries + 75
+        by_case : Rebalanced level at entries step old new changes left → size (after_edit edit step.node.entries) ≤ size step.node.entries + 75
         by_case (inl f) = let clash : None ≡ Some edit = sym f.nothing ∙ is in absurd (cc)
         by_case (inr (inl s)) =
             let parts = halves level below s.front s.back (subst (IsNearPlace level below) s.cut m.near) s.front_part s.back_part in
@@ -159,17 +159,17 @@ module _ (was is : Store) (level top : ℕ) (bounds : Bounds) (pairs : List Entr
         subst (λ (n : ℕ). Mending was is' (suc level) top bounds step.node.entries (after_edit (Pair (first_key back) (Some (big_endian 8 n))) step.node.entries) (aim_to new.next aim)) last
         (subst (Mending was is' (suc level) top bounds step.node.entries (after_edit (Pair (first_key back) (Some (big_endian 8 aim.last))) step.node.entries)) (sym more) done)
 
-    -- However a node below the root is settled, its parent is mended.
-    pub settled_mended : (is' : Store) (changes : List Change) (left : Option Edit) → Settled level at entries step old new changes left → ((q : ℕ) → is' q ≡ overlaid changes is q) → IsMended was is' (suc level) top bounds step.node.entries (aim_to new.next aim) left
-    settled_mended is' changes left (inl f) same =
+    -- However a node below the root is rebalanced, its parent is mended.
+    pub rebalanced_mended : (is' : Store) (changes : List Change) (left : Option Edit) → Rebalanced level at entries step old new changes left → ((q : ℕ) → is' q ≡ overlaid changes is q) → IsMended was is' (suc level) top bounds step.node.entries (aim_to new.next aim) left
+    rebalanced_mended is' changes left (inl f) same =
         let aims = none_given f.next in
         subst (λ (a : Aim). IsMended was is' (suc level) top bounds step.node.entries a left) aims (fits_mended old new store agrees view (subst (IsFree was) (sym aims) free) is' changes left f same)
-    settled_mended is' changes left (inr (inl s)) same =
+    rebalanced_mended is' changes left (inr (inl s)) same =
         subst (IsMended was is' (suc level) top bounds step.node.entries (aim_to new.next aim)) (sym s.parent)
         (split_here is' s.front s.back s.cut s.front_part s.back_part s.next (λ q. same q ∙ ap (λ (cs : List Change). overlaid cs is q) s.planned))
-    settled_mended is' changes left (inr (inr (inl j))) same =
+    rebalanced_mended is' changes left (inr (inr (inl j))) same =
         let aims = none_given j.next in
-        subst (λ (a : Aim). IsMended was is' (suc level) top bounds step.node.entries a left) aims (joins_mended old new store agrees view (subst (IsFree was) (sym aims) free) is' changes left j same)
-    settled_mended is' changes left (inr (inr (inr c))) same =
+        subst (λ (a : Aim). IsMended was is' (suc level) top bounds step.node.entries a left) aims (merges_mended old new store agrees view (subst (IsFree was) (sym aims) free) is' changes left j same)
+    rebalanced_mended is' changes left (inr (inr (inr c))) same =
         let aims = none_given c.next in
-        subst (λ (a : Aim). IsMended was is' (suc level) top bounds step.node.entries a left) aims (cuts_mended old new store agrees view (subst (IsFree was) (sym aims) free) is' changes left c same)
+        subst (λ (a : Aim). IsMended was is' (suc level) top bounds step.node.entries a left) aims (redistributes_mended old new store agrees view (subst (IsFree was) (sym aims) free) is' changes left c same)

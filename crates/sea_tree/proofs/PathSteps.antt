@@ -6,16 +6,16 @@ use Rattle.sea_node.specs.Entries.{Entry}
 use Rattle.sea_node.proofs.Keys.{least_key}
 use Rattle.sea_tree.specs.declared.fault.TreeFault.{TreeFault}
 use Rattle.sea_tree.specs.declared.fault.TreeFault.TheVariants.{Space, Broken}
-use Rattle.sea_tree.specs.declared.way.Step.{Step}
-use Rattle.sea_tree.specs.declared.way.Way.{Way}
+use Rattle.sea_tree.specs.declared.path.Step.{Step}
+use Rattle.sea_tree.specs.declared.path.Path.{Path}
 use Rattle.sea_tree.specs.Tree.{Bounds, root_bounds, LiesWithin, IsAddress, child_bounds}
-use Rattle.sea_tree.specs.Breaks.{HasNode, BreaksOnWay}
-use Rattle.sea_tree.specs.Calls.{IsWayFault, IsWholeWay}
+use Rattle.sea_tree.specs.Breaks.{HasNode, BreaksOnPath}
+use Rattle.sea_tree.specs.Calls.{IsPathFault, IsWholePath}
 use Rattle.sea_tree.specs.Place.{meant, Splits, IsPlaceFault, IsRootFault}
-use Rattle.sea_tree.specs.Way.{StepsDown, Descends, AreKnown, ComesDown, IsKnownWay}
+use Rattle.sea_tree.specs.Path.{StepsDown, Descends, AreKnown, ComesDown, IsKnownPath}
 use Rattle.sea_tree.proofs.Splits.{within_upper}
-use Rattle.sea_tree.proofs.Ways.{IsBroken-same, Descends-same, AreKnown-push, ComesDown-later, Descends-push, Descends-laid, laid_same, first_node, broken_below, no_break, way_laid}
-use Rattle.sea_tree.proofs.Holding.{breaks_from_way}
+use Rattle.sea_tree.proofs.Paths.{IsBroken-same, Descends-same, AreKnown-push, ComesDown-later, Descends-push, Descends-laid, laid_same, first_node, broken_below, no_break, path_laid}
+use Rattle.sea_tree.proofs.Holding.{breaks_from_path}
 
 -- ---- one step
 
@@ -52,7 +52,7 @@ steps_down s level at bounds step key child below here level_is upper_is node wi
       leads = subst (LiesWithin key) (sym is) inside;
     }
 
--- ---- the way begins, and goes on
+-- ---- the path begins, and goes on
 
 pub root_lies : (key : List ℕ) → IsName key → LiesWithin key root_bounds
 root_lies key name = (least_key key name, tt)
@@ -100,13 +100,13 @@ is_step mid new root key steps at bounds step child below reads down some here u
 -- ---- faults
 
 module _ (old new : Seen) (root : ℕ) (key : List ℕ) (reads : OnlyRead old new) (sound : IsSound new) where
-  pub root_fault : (fault : TreeFault) → IsRootFault root new fault → IsWayFault root key old new fault
+  pub root_fault : (fault : TreeFault) → IsRootFault root new fault → IsPathFault root key old new fault
   root_fault (Space fault) cause = tt
   root_fault (Broken at) (is, known, some, broken) = λ store agrees.
       let same = laid_same old new store reads sound agrees in
       ((λ none. some (same root known ∙ none)), inl (is, λ level. IsBroken-same new new.view (laid old store) same level root root_bounds known (broken level)))
 
-  pub step_fault : (steps : List Step) (level at : ℕ) (bounds : Bounds) (step : Step) (child : ℕ) (below : Bounds) (fault : TreeFault) → IsStep new root key steps level at bounds step child below → IsPlaceFault level child below new fault → IsWayFault root key old new fault
+  pub step_fault : (steps : List Step) (level at : ℕ) (bounds : Bounds) (step : Step) (child : ℕ) (below : Bounds) (fault : TreeFault) → IsStep new root key steps level at bounds step child below → IsPlaceFault level child below new fault → IsPathFault root key old new fault
   step_fault steps level at bounds step child below (Space fault) here cause = tt
   step_fault steps level at bounds step child below (Broken broken) here (is, known, breaks) = λ store agrees.
       let equal = laid_same old new store reads sound agrees in
@@ -116,14 +116,14 @@ module _ (old new : Seen) (root : ℕ) (key : List ℕ) (reads : OnlyRead old ne
       let steps_known = AreKnown-push new steps step here.0.steps_known (subst (IsKnown new) (sym here.1.here) here.0.known) in
       let down = Descends-same new new.view (laid old store) equal here.0.top root root_bounds (steps ++ step ∷ []) key level child below steps_known pushed in
       let below_breaks = broken_below (laid old store) here.0.top root root_bounds (steps ++ step ∷ []) key level child below down (IsBroken-same new new.view (laid old store) equal level child below known breaks) in
-      ((λ none. let there = top.1.0.here in cc), inr (here.0.top, (top.0, top.1), subst (λ (q : ℕ). BreaksOnWay (laid old store) key here.0.top root root_bounds q) (sym is) below_breaks))
+      ((λ none. let there = top.1.0.here in cc), inr (here.0.top, (top.0, top.1), subst (λ (q : ℕ). BreaksOnPath (laid old store) key here.0.top root root_bounds q) (sym is) below_breaks))
 
--- ---- a whole way, and none
+-- ---- a whole path, and none
 
-pub whole_way : (old new : Seen) (root : ℕ) (key : List ℕ) (way : Way) → OnlyRead old new → IsSound new → IsKnownWay new root key way → IsWholeWay root key old new
-whole_way old new root key way reads sound known = λ store at agrees breaks.
-    no_break (laid old store) known.down.top root way.steps.items key way.at.0 way.leaf.entries (meant way.bounds) at (way_laid old new store root key way reads sound agrees known) breaks
+pub whole_path : (old new : Seen) (root : ℕ) (key : List ℕ) (path : Path) → OnlyRead old new → IsSound new → IsKnownPath new root key path → IsWholePath root key old new
+whole_path old new root key path reads sound known = λ store at agrees breaks.
+    no_break (laid old store) known.down.top root path.steps.items key path.at.0 path.leaf.entries (meant path.bounds) at (path_laid old new store root key path reads sound agrees known) breaks
 
-pub empty_way : (old new : Seen) (root : ℕ) (key : List ℕ) → OnlyRead old new → IsSound new → IsKnown new root → new.view root ≡ None → IsWholeWay root key old new
-empty_way old new root key reads sound known none = λ store at agrees breaks.
+pub empty_path : (old new : Seen) (root : ℕ) (key : List ℕ) → OnlyRead old new → IsSound new → IsKnown new root → new.view root ≡ None → IsWholePath root key old new
+empty_path old new root key reads sound known none = λ store at agrees breaks.
     breaks.0 (sym (laid_same old new store reads sound agrees root known) ∙ none)

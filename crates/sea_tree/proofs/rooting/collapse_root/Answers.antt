@@ -3,19 +3,19 @@ use Rattle.sea_node.specs.Entries.{Entry}
 use Rattle.sea_tree.specs.declared.plan.Write.TheVariants.{Whole}
 use Rattle.sea_tree.specs.Tree.{IsAddress}
 use Rattle.sea_tree.specs.Plan.{changes_of}
-use Rattle.sea_tree.proofs.RootSettles.{changes_push, root_sinks}
+use Rattle.sea_tree.proofs.RootRebalances.{changes_push, root_collapses}
 use Rattle.sea_tree.proofs.Nears.{child_read, only_child}
-use Rattle.sea_tree.proofs.rooting.sink_root.Goals as goal
-use Rattle.sea_tree.proofs.rooting.sink_root.Goals.{in-Some+in_ok-push-in-Some, in-None+in_ok-plan_gone-in-None}
+use Rattle.sea_tree.proofs.rooting.collapse_root.Goals as goal
+use Rattle.sea_tree.proofs.rooting.collapse_root.Goals.{in-Some+in_ok-push-in-Some, in-None+in_ok-plan_gone-in-None}
 
-pub returns-clause-sunk : goal.returns-clause-sunk
-returns-clause-sunk g c =
+pub returns-clause-collapsed : goal.returns-clause-collapsed
+returns-clause-collapsed g c =
     let one : changes_of c.match-branch-2.writes ≡ (c.args.root.0, c.in_ok-block.field-0) ∷ changes_of c.args.writes.now =
     elim c.match-branch-2.branch [
       | in-Some+in_ok-push-in-Some w ↦ ap changes_of w.writes-is ∙ ap changes_of w.in_ok-push-in-Some.ensures.ok ∙ changes_push c.args.writes.now (Whole c.args.root w.in-Some.block) ∙ ap (λ (block : Option (List ℕ)). (c.args.root.0, block) ∷ changes_of c.args.writes.now) (sym w.in-Some.is)
       | in-None+in_ok-plan_gone-in-None w ↦ ap changes_of w.writes-is ∙ w.in_ok-plan_gone-in-None.ensures.planned ∙ ap (λ (block : Option (List ℕ)). (c.args.root.0, block) ∷ changes_of c.args.writes.now) (sym w.in-None.is)
     ] in
-    root_sinks c.args.node.now.level c.args.root.0 c.args.node.now.entries c.index-items-0.result c.address_of-child.result.0 c.in_ok-block.field-0 (g.S.Space.seen c.args.space.now) (g.S.Space.seen c.planned.new.space) (changes_of c.args.writes.now) (changes_of c.match-branch-2.writes) (changes_of c.plan_gone-2.new.writes) c.requires.above c.requires.one (subst (λ (es : List Entry). IsAddress (get_or es 0 c.index-items-0.result).1 c.address_of-child.result.0) c.items.ensures c.address_of-child.ensures) c.in_ok-block.ensures.block one c.in_ok-plan_gone.ensures.planned c.in_ok-block.ensures.reads.next
+    root_collapses c.args.node.now.level c.args.root.0 c.args.node.now.entries c.index-items-0.result c.address_of-child.result.0 c.in_ok-block.field-0 (g.S.Space.seen c.args.space.now) (g.S.Space.seen c.planned.new.space) (changes_of c.args.writes.now) (changes_of c.match-branch-2.writes) (changes_of c.plan_gone-2.new.writes) c.requires.above c.requires.one (subst (λ (es : List Entry). IsAddress (get_or es 0 c.index-items-0.result).1 c.address_of-child.result.0) c.items.ensures c.address_of-child.ensures) c.in_ok-block.ensures.block one c.in_ok-plan_gone.ensures.planned c.in_ok-block.ensures.reads.next
 
 pub returns-clause-within : goal.returns-clause-within
 returns-clause-within g c =

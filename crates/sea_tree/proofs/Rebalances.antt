@@ -1,4 +1,4 @@
--- Settling a node: parts of its entries, and a neighbour that is read.
+-- Rebalancing a node: parts of its entries, and a neighbour that is read.
 use Rattle.std.proofs.Common.{◌≡◌, inl, inr, ℕ, zero, suc, ◌+◌, ◌-◌, ◌<◌, ◌≤◌, Bool, List, [], ◌∷◌, ◌++◌, length, get_or, take, drop, Option, Some, None, refl, sym, ap, subst, ◌∙◌, arith, append_assoc, length-append, length-take, take-append-drop}
 use Rattle.std.specs.List.{All, AllByRecursion}
 use Rattle.std.proofs.lemmas.List.Elements.{All-append, recursion_from_All}
@@ -14,7 +14,7 @@ use Rattle.sea_tree.specs.declared.edit.Edit.{Edit}
 use Rattle.sea_tree.specs.declared.edit.Edit.TheVariants.{Pair, Moved}
 use Rattle.sea_tree.specs.declared.fault.TreeFault.{TreeFault}
 use Rattle.sea_tree.specs.declared.fault.TreeFault.TheVariants.{Space, Broken}
-use Rattle.sea_tree.specs.declared.way.Step.{Step}
+use Rattle.sea_tree.specs.declared.path.Step.{Step}
 use Rattle.sea_tree.specs.declared.neighbours.Neighbours.{Neighbours as HeldNeighbours}
 use Rattle.sea_tree.specs.Tree.{Bounds, IsInPlace, IsAddress, child_bounds, first_key}
 use Rattle.sea_tree.specs.Breaks.{IsBroken, Child}
@@ -22,11 +22,11 @@ use Rattle.sea_tree.specs.Cut.{IsCut}
 use Rattle.sea_tree.specs.Does.{Change}
 use Rattle.sea_tree.specs.Place.{Splits, IsPlaceFault}
 use Rattle.sea_tree.specs.Mending.{IsNearPlace, IsPart}
-use Rattle.sea_tree.specs.Settled.{IsNearChild, HasChild, AreHalves, AreNeighbours, Joined, CutAnew, Joins, Cuts, SplitsInTwo, IsSettleFault}
+use Rattle.sea_tree.specs.Rebalanced.{IsNearChild, HasChild, AreHalves, AreNeighbours, Merged, Redistributed, Merges, Redistributes, SplitsInTwo, IsRebalanceFault}
 use Rattle.sea_tree.proofs.Cuts.{cut_parts}
 use Rattle.sea_tree.proofs.MendNear.{halves}
 use Rattle.sea_tree.proofs.Splits.{next_at}
-use Rattle.sea_tree.proofs.Ways.{laid_same, HasNode-same, IsBroken-same}
+use Rattle.sea_tree.proofs.Paths.{laid_same, HasNode-same, IsBroken-same}
 
 -- ---- parts of a node's entries
 
@@ -57,10 +57,10 @@ first_is [] e filled at = absurd (omega arith)
 first_is (f ∷ es) e filled at = sym (ap (λ (x : Entry). x.0) at)
 
 -- what a split plans
-pub split_settled : (level at : ℕ) (entries : List Entry) (old new : Seen) (before mid after : List Change) (front back : Node) (fresh : ℕ) (key value : List ℕ) (e : Entry) → 4064 < size entries → AreHalves level entries front back → fresh ≡ old.next → new.next ≡ old.next + 1
+pub split_rebalanced : (level at : ℕ) (entries : List Entry) (old new : Seen) (before mid after : List Change) (front back : Node) (fresh : ℕ) (key value : List ℕ) (e : Entry) → 4064 < size entries → AreHalves level entries front back → fresh ≡ old.next → new.next ≡ old.next + 1
     → mid ≡ (at, Some (node_bytes front.level front.entries)) ∷ before → after ≡ (fresh, Some (node_bytes back.level back.entries)) ∷ mid → e ≡ get_or back.entries 0 e → key ≡ e.0 → value ≡ big_endian 8 fresh
     → (changes : List Change) × (after ≡ changes ++ before) × SplitsInTwo level at entries old new changes (Some (Pair key (Some value)))
-split_settled level at entries old new before mid after front back fresh key value e large are is_fresh next first second at_e is_key is_value = (
+split_rebalanced level at entries old new before mid after front back fresh key value e large are is_fresh next first second at_e is_key is_value = (
   (fresh, Some (node_bytes back.level back.entries)) ∷ (at, Some (node_bytes front.level front.entries)) ∷ [],
   second ∙ ap (λ (cs : List Change). (fresh, Some (node_bytes back.level back.entries)) ∷ cs) first,
   record {
@@ -170,12 +170,12 @@ apart k (e ∷ es) fs lefts rights = (all_below k e.0 fs lefts.0 rights, apart k
 abbrev pub open_bounds : List ℕ → Bounds
 open_bounds lower = record { least = 0; lower = lower; upper = None }
 
-first_joined : (es fs : List Entry) (lower : List ℕ) → (1 ≤ length es) × (first_key es ≡ lower) → (1 ≤ length (es ++ fs)) × (first_key (es ++ fs) ≡ lower)
-first_joined [] fs lower first = absurd (omega (arith, first.0))
-first_joined (e ∷ es) fs lower first = (omega (arith, length-append (e ∷ es) fs), first.1)
+first_merged : (es fs : List Entry) (lower : List ℕ) → (1 ≤ length es) × (first_key es ≡ lower) → (1 ≤ length (es ++ fs)) × (first_key (es ++ fs) ≡ lower)
+first_merged [] fs lower first = absurd (omega (arith, first.0))
+first_merged (e ∷ es) fs lower first = (omega (arith, length-append (e ∷ es) fs), first.1)
 
-pub joined_near : (level : ℕ) (one two : Entry) (after : List Entry) (upper : Option (List ℕ)) (es fs : List Entry) → IsBelow one.0 two.0 → IsNearPlace level (child_bounds one (two ∷ after) upper) es → IsNearPlace level (child_bounds two after upper) fs → size es + size fs ≤ 5155 → IsNearPlace level (open_bounds one.0) (es ++ fs)
-joined_near level one two after upper es fs below left right fits = record {
+pub merged_near : (level : ℕ) (one two : Entry) (after : List Entry) (upper : Option (List ℕ)) (es fs : List Entry) → IsBelow one.0 two.0 → IsNearPlace level (child_bounds one (two ∷ after) upper) es → IsNearPlace level (child_bounds two after upper) fs → size es + size fs ≤ 5155 → IsNearPlace level (open_bounds one.0) (es ++ fs)
+merged_near level one two after upper es fs below left right fits = record {
   level_fits = left.level_fits;
   children = λ h. All-append (λ (e : Entry). length e.1 ≡ 8) es fs (left.children h) (right.children h);
   keys = All-append (λ (e : Entry). IsName e.0) es fs left.keys right.keys;
@@ -185,7 +185,7 @@ joined_near level one two after upper es fs below left right fits = record {
   lower = All-append (λ (e : Entry). IsNotAbove one.0 e.0) es fs left.lower
       (λ k d within. IsNotAbove-trans one.0 two.0 (get_or fs k d).0 (IsNotAbove-below one.0 two.0 below) (right.lower k d within));
   upper = λ k d within. tt;
-  first = λ h. first_joined es fs one.0 (left.first h);
+  first = λ h. first_merged es fs one.0 (left.first h);
   near = omega (arith, size-append es fs);
 }
 
@@ -208,13 +208,13 @@ child_broken old new parent index level at bounds within address asks reads soun
     let child : Child parent.node.entries parent.upper a.before a.after at bounds = record { entry = a.entry; split = a.splits.split; address = address a.before a.after a.entry a.splits; bounds_are = asks a.before a.after a.entry a.splits } in
     (reads, (a.before, a.after, bounds, child, λ store agrees. IsBroken-same new new.view (laid old store) (laid_same old new store reads sound agrees) level at bounds known broken))
 
--- so the fault that a read of it met says why a node was not settled
-pub settle_fault : (old new : Seen) (parent : Step) (index level at : ℕ) (bounds : Bounds) (fault : TreeFault) → index < length parent.node.entries
+-- so the fault that a read of it met says why a node was not rebalanced
+pub rebalance_fault : (old new : Seen) (parent : Step) (index level at : ℕ) (bounds : Bounds) (fault : TreeFault) → index < length parent.node.entries
     → ((before after : List Entry) (entry : Entry) → Splits parent.node.entries index before entry after → IsAddress entry.1 at)
     → ((before after : List Entry) (entry : Entry) → Splits parent.node.entries index before entry after → bounds ≡ child_bounds entry after parent.upper)
-    → OnlyRead old new → IsSound new → IsPlaceFault level at bounds new fault → IsSettleFault level parent old new fault
-settle_fault old new parent index level at bounds (Space fault) within address asks reads sound h = tt
-settle_fault old new parent index level at bounds (Broken q) within address asks reads sound h =
+    → OnlyRead old new → IsSound new → IsPlaceFault level at bounds new fault → IsRebalanceFault level parent old new fault
+rebalance_fault old new parent index level at bounds (Space fault) within address asks reads sound h = tt
+rebalance_fault old new parent index level at bounds (Broken q) within address asks reads sound h =
     subst (λ (a : ℕ). OnlyRead old new × ((front : List Entry) × (back : List Entry) × (b : Bounds) × Child parent.node.entries parent.upper front back a b × ((store : Store) → Agrees store new → IsBroken (laid old store) level a b))) (sym h.0)
     (child_broken old new parent index level at bounds within address asks reads sound h.1 h.2)
 
@@ -231,7 +231,7 @@ module _ (level at : ℕ) (es : List Entry) (parent : Step) (old new : Seen) (he
       let node = other.1.0.spells.node in
       let place = other.1.1 in
       let below : IsBelow t.one.0 t.two.0 = rising_two parent.node.entries parent.index t rising in
-      let all = joined_near level t.one t.two t.after parent.upper es fs below mine.1 (near_from_node level (child_bounds t.two t.after parent.upper) fs node place) (omega (arith, node.fits)) in
+      let all = merged_near level t.one t.two t.after parent.upper es fs below mine.1 (near_from_node level (child_bounds t.two t.after parent.upper) fs node place) (omega (arith, node.fits)) in
       record {
         thin = small;
         pair = record {
@@ -281,7 +281,7 @@ module _ (level at : ℕ) (es : List Entry) (parent : Step) (old new : Seen) (he
       let node = other.1.0.spells.node in
       let place = other.1.1 in
       let below : IsBelow t.one.0 t.two.0 = rising_two parent.node.entries i t rising in
-      let all = joined_near level t.one t.two t.after parent.upper fs es below (near_from_node level (child_bounds t.one (t.two ∷ t.after) parent.upper) fs node place) mine.1 (omega (arith, node.fits)) in
+      let all = merged_near level t.one t.two t.after parent.upper fs es below (near_from_node level (child_bounds t.one (t.two ∷ t.after) parent.upper) fs node place) mine.1 (omega (arith, node.fits)) in
       record {
         thin = small;
         pair = record {
@@ -313,22 +313,22 @@ module _ (level at : ℕ) (es : List Entry) (parent : Step) (old new : Seen) (he
   abbrev Planned : List Change → List Change → (List Change → Type 0) → Type 0
   Planned before after P = (changes : List Change) × (after ≡ changes ++ before) × P changes
 
-  pub joins : (before after : List Change) (left : Option Edit) → AreNeighbours level at es parent old new held → Joined held before after left → new.next ≡ old.next → Planned before after (λ changes. Joins level at es parent old new changes left)
-  joins before after left are joined next = (
+  pub merges : (before after : List Change) (left : Option Edit) → AreNeighbours level at es parent old new held → Merged held before after left → new.next ≡ old.next → Planned before after (λ changes. Merges level at es parent old new changes left)
+  merges before after left are merged next = (
     (held.right.0, None) ∷ (held.left.0, Some (node_bytes held.both.level held.both.entries)) ∷ [],
-    joined.planned,
+    merged.planned,
     record {
       thin = are.thin;
       pair = are.pair;
-      room = omega (arith, ap size are.both, joined.room);
+      room = omega (arith, ap size are.both, merged.room);
       planned = λ j. (sym are.right j, None) ∷ (sym are.left j, Some (node_bytes (are.level_is j) (sym are.both j))) ∷ [];
       next = next;
-      parent_edit = joined.parent_edit ∙ ap (λ (k : List ℕ). Some (Pair k None)) (sym are.separator);
+      parent_edit = merged.parent_edit ∙ ap (λ (k : List ℕ). Some (Pair k None)) (sym are.separator);
     },
   )
 
-  pub cuts : (before after : List Change) (left : Option Edit) → AreNeighbours level at es parent old new held → CutAnew held before after left → new.next ≡ old.next → Planned before after (λ changes. Cuts level at es parent old new changes left)
-  cuts before after left are cut next = (
+  pub redistributes : (before after : List Change) (left : Option Edit) → AreNeighbours level at es parent old new held → Redistributed held before after left → new.next ≡ old.next → Planned before after (λ changes. Redistributes level at es parent old new changes left)
+  redistributes before after left are cut next = (
     (held.right.0, Some (node_bytes held.both.level cut.back)) ∷ (held.left.0, Some (node_bytes held.both.level cut.front)) ∷ [],
     cut.planned,
     record {

@@ -1,4 +1,4 @@
--- Settling a root: what a plan leaves at an address, and what the root is settled to.
+-- Rebalancing a root: what a plan leaves at an address, and what the root is rebalanced to.
 use Rattle.std.proofs.Common.{◌≡◌, inl, inr, ℕ, zero, suc, ◌+◌, ◌<◌, ◌≤◌, ◌==◌, ◌||◌, Bool, true, false, cond, List, [], ◌∷◌, ◌++◌, length, get_or, take, map, reverse, Option, Some, None, refl, sym, ap, subst, ◌∙◌, arith, add-one}
 use Rattle.std.specs.declared.result.Result.{Result}
 use Rattle.std.specs.declared.result.Result.TheVariants.{Ok, Err}
@@ -14,8 +14,8 @@ use Rattle.sea_tree.specs.declared.plan.Write.{Write}
 use Rattle.sea_tree.specs.Tree.{NodeAt, root_bounds, IsAddress}
 use Rattle.sea_tree.specs.Breaks.{HasNode, IsFull}
 use Rattle.sea_tree.specs.Mending.{IsNearPlace}
-use Rattle.sea_tree.specs.Settled.{AreHalves}
-use Rattle.sea_tree.specs.Changing.{root_entries, RootSplits, RootSinks, RootSettled}
+use Rattle.sea_tree.specs.Rebalanced.{AreHalves}
+use Rattle.sea_tree.specs.Changing.{root_entries, RootSplits, RootCollapses, RootRebalanced}
 use Rattle.sea_tree.specs.Does.{Change, overlaid, is_among}
 use Rattle.sea_tree.specs.declared.splice.Splice.{Splice}
 use Rattle.sea_tree.specs.Plan.{change_of, changes_of, spliced_before}
@@ -121,7 +121,7 @@ abbrev pub Planned : List Change → List Change → (List Change → Type 0) �
 Planned before after P = (changes : List Change) × (after ≡ changes ++ before) × P changes
 
 module _ (level root : ℕ) (entries : List Entry) (near : IsNearPlace level root_bounds entries) where
-  pub root_fits : (seen : Seen) (before after : List Change) → 1 ≤ length entries → (1 ≤ level → 2 ≤ length entries) → size entries ≤ 4064 → after ≡ (root, Some (node_bytes level entries)) ∷ before → Planned before after (RootSettled level root entries seen seen before)
+  pub root_fits : (seen : Seen) (before after : List Change) → 1 ≤ length entries → (1 ≤ level → 2 ≤ length entries) → size entries ≤ 4064 → after ≡ (root, Some (node_bytes level entries)) ∷ before → Planned before after (RootRebalanced level root entries seen seen before)
   root_fits seen before after some two fits planned = (
     (root, Some (node_bytes level entries)) ∷ [],
     planned,
@@ -136,7 +136,7 @@ module _ (level root : ℕ) (entries : List Entry) (near : IsNearPlace level roo
   no_entries [] none = refl
   no_entries (e ∷ es) none = absurd (omega arith)
 
-  pub root_empties : (seen : Seen) (before after : List Change) → length entries ≡ 0 → after ≡ (root, None) ∷ before → Planned before after (RootSettled level root entries seen seen before)
+  pub root_empties : (seen : Seen) (before after : List Change) → length entries ≡ 0 → after ≡ (root, None) ∷ before → Planned before after (RootRebalanced level root entries seen seen before)
   root_empties seen before after none planned = (
     (root, None) ∷ [],
     planned,
@@ -171,10 +171,10 @@ module _ (level root : ℕ) (entries : List Entry) (near : IsNearPlace level roo
         )
 
 -- the root takes what is to stand at its one child
-pub root_sinks : (level root : ℕ) (entries : List Entry) (first : Entry) (child : ℕ) (block : Option (List ℕ)) (old new : Seen) (before one two : List Change) → 1 ≤ level → length entries ≡ 1 → IsAddress (get_or entries 0 first).1 child → ((store : Store) → Agrees store new → block ≡ overlaid before (laid old store) child) → one ≡ (root, block) ∷ before → two ≡ (child, None) ∷ one → new.next ≡ old.next → Planned before two (RootSinks level root entries old new before)
-root_sinks zero root entries first child block old new before one two above alone address stands is_one is_two next = absurd (omega arith)
-root_sinks (suc below) root [] first child block old new before one two above alone address stands is_one is_two next = absurd (omega arith)
-root_sinks (suc below) root (only ∷ []) first child block old new before one two above alone address stands is_one is_two next = (
+pub root_collapses : (level root : ℕ) (entries : List Entry) (first : Entry) (child : ℕ) (block : Option (List ℕ)) (old new : Seen) (before one two : List Change) → 1 ≤ level → length entries ≡ 1 → IsAddress (get_or entries 0 first).1 child → ((store : Store) → Agrees store new → block ≡ overlaid before (laid old store) child) → one ≡ (root, block) ∷ before → two ≡ (child, None) ∷ one → new.next ≡ old.next → Planned before two (RootCollapses level root entries old new before)
+root_collapses zero root entries first child block old new before one two above alone address stands is_one is_two next = absurd (omega arith)
+root_collapses (suc below) root [] first child block old new before one two above alone address stands is_one is_two next = absurd (omega arith)
+root_collapses (suc below) root (only ∷ []) first child block old new before one two above alone address stands is_one is_two next = (
   (child, None) ∷ (root, block) ∷ [],
   is_two ∙ ap (λ (cs : List Change). (child, None) ∷ cs) is_one,
   record {
@@ -190,14 +190,14 @@ root_sinks (suc below) root (only ∷ []) first child block old new before one t
     next = next;
   },
 )
-root_sinks (suc below) root (only ∷ another ∷ rest) first child block old new before one two above alone address stands is_one is_two next = absurd (omega arith)
+root_collapses (suc below) root (only ∷ another ∷ rest) first child block old new before one two above alone address stands is_one is_two next = absurd (omega arith)
 
--- A plan without a splice settles the root as its writes do.
-pub settled_whole : (s : Option Splice) (level root : ℕ) (entries : List Entry) (old new : Seen) (before after : List Change) → s ≡ None
-    → (changes : List Change) × (after ≡ changes ++ before) × RootSettled level root entries old new before changes
-    → (changes : List Change) × (spliced_before s after ≡ changes ++ spliced_before s before) × RootSettled level root entries old new (spliced_before s before) changes
-settled_whole s level root entries old new before after none done =
-    subst (λ (o : Option Splice). (changes : List Change) × (spliced_before o after ≡ changes ++ spliced_before o before) × RootSettled level root entries old new (spliced_before o before) changes) (sym none) done
+-- A plan without a splice rebalances the root as its writes do.
+pub rebalanced_whole : (s : Option Splice) (level root : ℕ) (entries : List Entry) (old new : Seen) (before after : List Change) → s ≡ None
+    → (changes : List Change) × (after ≡ changes ++ before) × RootRebalanced level root entries old new before changes
+    → (changes : List Change) × (spliced_before s after ≡ changes ++ spliced_before s before) × RootRebalanced level root entries old new (spliced_before s before) changes
+rebalanced_whole s level root entries old new before after none done =
+    subst (λ (o : Option Splice). (changes : List Change) × (spliced_before o after ≡ changes ++ spliced_before o before) × RootRebalanced level root entries old new (spliced_before o before) changes) (sym none) done
 
 -- a root of the highest level with too many entries can't grow
 pub root_full : (seen : Seen) (level root : ℕ) (entries : List Entry) → IsSound seen → IsKnown seen root → HasNode seen.view level root root_bounds entries → level ≡ 7 → 3989 < size entries → (store : Store) → Agrees store seen → IsFull (laid seen store) root
