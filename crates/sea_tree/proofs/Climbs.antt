@@ -1,5 +1,5 @@
 -- A change carried up from a leaf to the root, as the code goes.
-use Rattle.std.proofs.Common.{◌≡◌, ◌≢◌, ℕ, suc, ◌+◌, ◌<◌, ◌≤◌, ◌^◌, List, [], ◌∷◌, ◌++◌, length, Option, Some, None, refl, sym, ◌∙◌, ap, subst, inl, inr, arith, zero}
+use Rattle.std.proofs.Common.{◌≡◌, ◌≢◌, true, ℕ, suc, ◌+◌, ◌<◌, ◌≤◌, ◌^◌, List, [], ◌∷◌, ◌++◌, length, Option, Some, None, refl, sym, ◌∙◌, ap, subst, inl, inr, arith, zero}
 use Rattle.std.specs.Option.{IfSome}
 use Rattle.std.proofs.lemmas.Bool.{true≢false}
 use Rattle.std.specs.List.{Contains}
@@ -15,14 +15,14 @@ use Rattle.sea_tree.specs.Tree.{Bounds, NodeAt, IsNodeOf, root_bounds, IsAddress
 use Rattle.sea_tree.specs.Content.{HasContent}
 use Rattle.sea_tree.specs.Breaks.{HasNode}
 use Rattle.sea_tree.specs.Calls.{Meets}
-use Rattle.sea_tree.specs.Does.{Change, overlaid, Does}
+use Rattle.sea_tree.specs.Does.{Change, overlaid, is_among, Does}
 use Rattle.sea_tree.specs.Subtrees.{Holds}
 use Rattle.sea_tree.specs.Mending.{Aim, IsGiven, after_edit, IsNearPlace, Mending, Replaced}
 use Rattle.sea_tree.specs.Changing.{Changed, changed_content, IsPlanned, TouchesOwn, RootRebalanced, RootCollapses}
 use Rattle.sea_tree.specs.Place.{meant}
 use Rattle.sea_tree.specs.Rebalanced.{IsNearChild, Rebalanced}
 use Rattle.sea_tree.specs.Path.{StepsDown, ComesDown, AreKnown, IsKnownPath}
-use Rattle.sea_tree.proofs.Doing.{Does-then, Does-laid, Does-agrees, overlaid-append, overlaid-same}
+use Rattle.sea_tree.proofs.Doing.{Does-then, Does-laid, Does-agrees, overlaid-append}
 use Rattle.sea_tree.proofs.Holding.{one_node, node_held, same_address}
 use Rattle.sea_tree.proofs.Contents.{content_held}
 use Rattle.sea_tree.proofs.Paths.{laid_same, Descends-laid, StepsDown-same, first_node, step_lies}
@@ -33,8 +33,8 @@ use Rattle.sea_tree.proofs.MendRoot.{root_split_puts, root_split, root_collapsed
 use Rattle.sea_tree.proofs.MendRebalanced.{IsMended, rebalanced_mended}
 use Rattle.sea_tree.proofs.MendPath.{last_step, path_held, path_replaced}
 use Rattle.sea_tree.specs.Reads.{IsChildOf}
-use Rattle.sea_tree.proofs.Lone.{lone_edit}
-use Rattle.sea_tree.proofs.Touched.{among_append, child_in, rebalanced_touches, root_touches, at_top, child_of_tree}
+use Rattle.sea_tree.proofs.Lone.{lone_edit, lone_planned}
+use Rattle.sea_tree.proofs.Touched.{among_append, among_later, child_in, rebalanced_touches, root_touches, at_top, child_of_tree}
 use Rattle.sea_tree.proofs.NearUp.{near_up, same_split}
 
 -- what is aimed at, with what was given from one state to another
@@ -48,6 +48,7 @@ pub record Climbs (begun now : Seen) (root : ℕ) (key : List ℕ) (value : Opti
   pub near : IsNearPlace level bounds after
   pub grown : 1 ≤ level → size after ≤ size entries + 75
   pub lone : (e : Entry) → 1 ≤ level → after ≡ e ∷ [] → Contains entries e
+  pub alone : (e : Entry) (child : ℕ) → 1 ≤ level → after ≡ e ∷ [] → IsAddress e.1 child → is_among changes child ≡ true
   pub reads : Does [] begun now
   pub touched : TouchesOwn root begun now changes
   pub mending : (store : Store) (before : Values) → Meets store root begun now before → Mending (laid begun store) (overlaid changes (laid begun store)) level at bounds entries after (aim_of key value begun now)
@@ -64,6 +65,7 @@ climbs_begun begun root key value path sound name short known nothing near =
       near = near;
       grown = λ some. absurd (omega (arith, some));
       lone = λ e some is. absurd (omega (arith, some));
+      alone = λ e child some is address. absurd (omega (arith, some));
       reads = nothing;
       touched = λ store q agrees e. absurd (true≢false (sym e));
       mending = λ store before meets.
@@ -174,6 +176,7 @@ climbs_up begun now new root key value steps step level at entries after changes
       near = grows.near;
       grown = λ _. grows.grown;
       lone = λ e _ is. lone_edit level step.node.entries edit e above.down.node.0.spells.node is;
+      alone = λ e child _ is address. among_later added changes child (lone_planned level at after step now new added edit above.down.node.0.spells.node rebalanced e child is address);
       reads = Does-then [] [] climbs.reads goes;
       touched = rebalanced_own begun now new root key value steps step level at entries after changes added (Some edit) sound climbs rebalanced goes;
       mending = rebalanced_above begun now new root key value steps step level at entries after changes added (Some edit) sound small climbs rebalanced goes above;
@@ -250,7 +253,7 @@ module _ (begun now new : Seen) (root : ℕ) (key : List ℕ) (value : Option (L
           let m : Mending was is (suc s.below) root root_bounds entries (s.only ∷ []) aim = subst (λ (es : List Entry). Mending was is (suc s.below) root root_bounds entries es aim) s.one m1 in
           let node = node_held is s.below m.below_is.0 (child_bounds s.only [] None) m.below_is.1 m.below_is.3 m.below_is.6 in
           let there : is s.child ≡ Some node.node.0.bytes = subst (λ (q : ℕ). is q ≡ Some node.node.0.bytes) (same_address s.only.1 m.below_is.0 s.child m.below_is.5 s.address) node.node.0.here in
-          let block : s.block ≡ Some node.node.0.bytes = s.child_block store meets.agrees ∙ overlaid-same changes (laid now store) was s.child (Does-laid [] climbs.reads store s.child) ∙ there in
+          let block : s.block ≡ Some node.node.0.bytes = s.child_block was ∙ there in
           let planned : added ≡ (s.child, None) ∷ (root, Some node.node.0.bytes) ∷ [] = s.planned ∙ ap (λ (b : Option (List ℕ)). (s.child, None) ∷ (root, b) ∷ []) block in
           let among : Contains entries s.only = climbs.lone s.only (omega (arith, s.level_is)) s.one in
           let old_child : IsGiven aim s.child → ⊥ = λ given. mending_child_filled was is s.below root root_bounds entries (s.only ∷ []) aim m s.only s.child among s.address (free s.child given) in

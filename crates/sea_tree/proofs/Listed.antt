@@ -6,7 +6,6 @@ use Rattle.std.proofs.lemmas.List.{map-append}
 use Rattle.std.proofs.lemmas.List.Elements.{Contains-append_left, Contains-append_right}
 use Rattle.sea_base.specs.declared.place.Laddr.{Laddr}
 use Rattle.sea_base.specs.Space.{Store, Seen, Agrees, laid, ReadsAtMost, Places}
-use Rattle.sea_tree.specs.Tree.{IsNodeOf}
 use Rattle.sea_tree.specs.Calls.{IsWalked}
 use Rattle.sea_tree.specs.Reads.{ReadsListed, ReadsTree}
 use Rattle.sea_tree.proofs.Holding.{Contains-head, Contains-later, Contains-cases}

@@ -13,6 +13,7 @@ use Rattle.sea_tree.specs.Tree.{Bounds, first_key, child_bounds}
 use Rattle.sea_tree.specs.Breaks.{HasNode}
 use Rattle.sea_tree.specs.Does.{Change, overlaid}
 use Rattle.sea_tree.specs.Path.{StepsDown}
+use Rattle.sea_tree.specs.Reads.{ReadsOnly}
 use Rattle.sea_tree.specs.Rebalanced.{Fits, Neighbours, Merges, Redistributes, Rebalanced}
 use Rattle.sea_tree.specs.Subtrees.{Holds}
 use Rattle.sea_tree.specs.Mending.{after_edit, IsNearPlace, Aim, Mending, Replaced, IsPart}
@@ -60,9 +61,9 @@ module _ (was is : Store) (level top : ℕ) (bounds : Bounds) (pairs : List Entr
     neighbours_paired n = by_side n.sides
       where
         by_side : ((step.index ≡ length n.before) × (at ≡ n.one_at) × (entries ≡ n.one_entries)
-            × ((s : Store) → Agrees s new → HasNode (laid old s) level n.two_at (child_bounds n.two n.after step.upper) n.two_entries))
+            × ((s : Store) → Agrees s new → HasNode (laid old s) level n.two_at (child_bounds n.two n.after step.upper) n.two_entries) × ReadsOnly n.two_at old new)
             ⊎ ((step.index ≡ length n.before + 1) × (n.after ≡ []) × (at ≡ n.two_at) × (entries ≡ n.two_entries)
-            × ((s : Store) → Agrees s new → HasNode (laid old s) level n.one_at (child_bounds n.one (n.two ∷ n.after) step.upper) n.one_entries))
+            × ((s : Store) → Agrees s new → HasNode (laid old s) level n.one_at (child_bounds n.one (n.two ∷ n.after) step.upper) n.one_entries) × ReadsOnly n.one_at old new)
             → Paired was is level top bounds n.before n.one n.two n.after n.one_at n.two_at (n.one_entries ++ n.two_entries) aim
         by_side (inl left) =
             let same = one_place down.before n.before down.after (n.two ∷ n.after) down.entry n.one (down.split.count ∙ left.0) (sym down.split.split ∙ n.split) in

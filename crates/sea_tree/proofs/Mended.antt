@@ -1,5 +1,5 @@
 -- What the loop of a change needs at each of its turns, and what it ends with.
-use Rattle.std.proofs.Common.{◌≡◌, ℕ, zero, suc, ◌+◌, ◌<◌, ◌≤◌, ◌^◌, List, [], ◌∷◌, ◌++◌, length, Bool, true, false, Option, Some, None, refl, sym, ◌∙◌, subst, inl, inr, arith}
+use Rattle.std.proofs.Common.{◌≡◌, ℕ, zero, suc, ◌+◌, ◌<◌, ◌≤◌, ◌^◌, List, [], ◌∷◌, ◌++◌, length, true, false, Option, Some, None, refl, sym, ◌∙◌, subst, inl, inr, arith}
 use Rattle.std.specs.Option.{IfSome}
 use Rattle.sea_base.specs.Name.{IsName}
 use Rattle.sea_base.specs.Space.{Store, Seen, IsKnown, IsSound, Agrees, laid}
@@ -11,10 +11,10 @@ use Rattle.sea_tree.specs.declared.fault.TreeFault.{TreeFault}
 use Rattle.sea_tree.specs.declared.fault.TreeFault.TheVariants.{Space, Broken}
 use Rattle.sea_tree.specs.declared.path.Step.{Step}
 use Rattle.sea_tree.specs.declared.path.Path.{Path}
-use Rattle.sea_tree.specs.Tree.{Bounds, NodeAt, root_bounds}
+use Rattle.sea_tree.specs.Tree.{Bounds, NodeAt, root_bounds, IsAddress}
 use Rattle.sea_tree.specs.Breaks.{HasNode, IsBroken, Child, BreaksBelow}
 use Rattle.sea_tree.specs.Calls.{IsPlanFault, IsRootRebalanceFault}
-use Rattle.sea_tree.specs.Does.{Change, Does}
+use Rattle.sea_tree.specs.Does.{Change, is_among, Does}
 use Rattle.sea_tree.specs.Mending.{after_edit, IsNearPlace}
 use Rattle.sea_tree.specs.Changing.{IsPlanned, TouchesOwn, RootRebalanced}
 use Rattle.sea_tree.specs.Place.{meant}
@@ -99,17 +99,18 @@ ends_own begun now new root key value steps init step level at entries after cha
 -- ---- at the root
 
 -- What rebalancing the root needs.
-pub record AtRoot (now : Seen) (root level at : ℕ) (entries after : List Entry) : Type 0 where
+pub record AtRoot (now : Seen) (root level at : ℕ) (entries after : List Entry) (changes : List Change) : Type 0 where
   pub known : IsKnown now root
   pub node : HasNode now.view level root root_bounds entries
   pub near : IsNearPlace level root_bounds after
+  pub alone : (e : Entry) (child : ℕ) → 1 ≤ level → after ≡ e ∷ [] → IsAddress e.1 child → is_among changes child ≡ true
 
 pub root_reached : (begun now : Seen) (root : ℕ) (key : List ℕ) (value : Option (List ℕ)) (steps : List Step) (level at : ℕ) (entries after : List Entry) (changes : List Change) → steps ≡ [] → Climbs begun now root key value steps level at entries after changes → at ≡ root
 root_reached begun now root key value steps level at entries after changes none climbs0 =
     let climbs : Climbs begun now root key value [] level at entries after changes = subst (λ (l : List Step). Climbs begun now root key value l level at entries after changes) none climbs0 in
     sym climbs.down.descent.1
 
-pub comes_to_root : (begun now : Seen) (root : ℕ) (key : List ℕ) (value : Option (List ℕ)) (steps : List Step) (level at : ℕ) (entries after : List Entry) (changes : List Change) → steps ≡ [] → Climbs begun now root key value steps level at entries after changes → AtRoot now root level at entries after
+pub comes_to_root : (begun now : Seen) (root : ℕ) (key : List ℕ) (value : Option (List ℕ)) (steps : List Step) (level at : ℕ) (entries after : List Entry) (changes : List Change) → steps ≡ [] → Climbs begun now root key value steps level at entries after changes → AtRoot now root level at entries after changes
 comes_to_root begun now root key value steps level at entries after changes none climbs0 =
     let climbs : Climbs begun now root key value [] level at entries after changes = subst (λ (l : List Step). Climbs begun now root key value l level at entries after changes) none climbs0 in
     let place : at ≡ root = sym climbs.down.descent.1 in
@@ -120,6 +121,7 @@ comes_to_root begun now root key value steps level at entries after changes none
       known = Does-known [] climbs.reads root known;
       node = HasNode-same begun begun.view now.view (λ q k. sym (climbs.reads.view q (inr k))) level root root_bounds entries known node;
       near = subst (λ (b : Bounds). IsNearPlace level b after) asked climbs.near;
+      alone = climbs.alone;
     }
 
 pub roots : (begun now new : Seen) (root : ℕ) (key : List ℕ) (value : Option (List ℕ)) (steps : List Step) (level at : ℕ) (entries after : List Entry) (changes changes' added : List Change) → now.next < 2 ^ 62 + 2 ^ 47 → steps ≡ []

@@ -1,9 +1,8 @@
 -- Which addresses are read on the path to a key.
-use Rattle.std.proofs.Common.{◌≡◌, ◌≢◌, ℕ, zero, suc, List, [], ◌∷◌, ◌++◌, sym, subst, ◌∙◌, inl, inr}
+use Rattle.std.proofs.Common.{ℕ, zero, suc, List, [], ◌∷◌, ◌++◌, sym, subst, ◌∙◌, inl, inr}
 use Rattle.std.proofs.lemmas.Bool.{cases_eq}
 use Rattle.sea_base.specs.Space.{Store, Seen, IsKnown, IsSound, Agrees, laid, OnlyRead, ReadsAtMost}
 use Rattle.sea_base.proofs.Spaces.{agrees_before}
-use Rattle.sea_node.specs.Entries.{Entry}
 use Rattle.sea_tree.specs.declared.path.Step.{Step}
 use Rattle.sea_tree.specs.Tree.{Bounds, root_bounds}
 use Rattle.sea_tree.specs.Breaks.{Child}

@@ -1,5 +1,5 @@
 -- Coming down from a root by one step after the other, and the faults that end it.
-use Rattle.std.proofs.Common.{◌≡◌, inl, inr, ℕ, zero, suc, ◌-◌, ◌<◌, ◌≤◌, Bool, List, [], ◌∷◌, ◌++◌, length, None, refl, sym, ap, subst, ◌∙◌, arith}
+use Rattle.std.proofs.Common.{◌≡◌, inl, inr, ℕ, zero, suc, ◌-◌, ◌<◌, List, [], ◌∷◌, ◌++◌, length, None, refl, sym, ap, subst, ◌∙◌, arith}
 use Rattle.sea_base.specs.Space.{Store, Seen, IsKnown, IsSound, OnlyRead, laid}
 use Rattle.sea_base.specs.Name.{IsName}
 use Rattle.sea_node.specs.Entries.{Entry}
@@ -15,7 +15,6 @@ use Rattle.sea_tree.specs.Place.{meant, Splits, IsPlaceFault, IsRootFault}
 use Rattle.sea_tree.specs.Path.{StepsDown, Descends, AreKnown, ComesDown, IsKnownPath}
 use Rattle.sea_tree.proofs.Splits.{within_upper}
 use Rattle.sea_tree.proofs.Paths.{IsBroken-same, Descends-same, AreKnown-push, ComesDown-later, Descends-push, Descends-laid, laid_same, first_node, broken_below, no_break, path_laid}
-use Rattle.sea_tree.proofs.Holding.{breaks_from_path}
 
 -- ---- one step
 

@@ -1,6 +1,6 @@
 -- Writing what is planned, one thing after the other.
 use Rattle.std.proofs.Common.{◌≡◌, ℕ, ◌+◌, ◌≤◌, List, [], ◌∷◌, ◌++◌, Bool, true, false, ◌≢◌, ◌⊎◌, length, refl, ◌==◌, ◌||◌, Option, Some, None, map, reverse, inl, inr, sym, ap, subst, ◌∙◌, arith}
-use Rattle.std.specs.Option.{option_map, IfSome}
+use Rattle.std.specs.Option.{option_map, IfSome, MatchOption}
 use Rattle.std.proofs.lemmas.List.{map-append, reverse-append}
 use Rattle.std.proofs.lemmas.List.Sums.{sum_by_push}
 use Rattle.sea_base.specs.Space.{Seen, IsKnown, Writes, Places, Amends}
@@ -8,7 +8,7 @@ use Rattle.sea_base.specs.Splice.{spliced}
 use Rattle.sea_base.specs.Name.{IsName}
 use Rattle.sea_base.specs.declared.delta.Delta.{Delta}
 use Rattle.std.specs.List.{Contains}
-use Rattle.std.proofs.lemmas.Bool.{cases_Bool, eqb-true, true≢false}
+use Rattle.std.proofs.lemmas.Bool.{cases_Bool, eqb-true, eq-eqb, true≢false}
 use Rattle.std.proofs.lemmas.List.Elements.{All-contains}
 use Rattle.sea_node.proofs.Edits.{entries_after, edited-Some}
 use Rattle.sea_node.specs.Entries.{Entry, IsRising, edited, entries_before, entry_put}
@@ -22,7 +22,11 @@ use Rattle.sea_tree.specs.declared.fault.TreeFault.TheVariants.{Space, Broken}
 use Rattle.sea_tree.specs.Tree.{NodeAt}
 use Rattle.sea_tree.specs.Calls.{IsUnchanged}
 use Rattle.sea_tree.specs.Does.{Change, Does, ChangesAtMost, is_among, ArePlaced, SplicesOnce}
-use Rattle.sea_tree.specs.Plan.{change_of, changes_of, fills, count_filled, Splices, spliced_before, plan_changes, one_filled, plan_fills, CanSplice}
+use Rattle.sea_tree.specs.Plan.{change_of, changes_of, fills, count_filled, Splices, spliced_before, plan_changes, one_filled, plan_fills, IsWritten, CanSplice}
+use Rattle.sea_tree.specs.declared.edit.Edit.{Edit}
+use Rattle.sea_tree.specs.declared.edit.Edit.TheVariants.{Pair, Moved}
+use Rattle.sea_tree.specs.Form.{IsSpliceOf, IsKept}
+use Rattle.sea_tree.proofs.Touched.{among_cases}
 use Rattle.sea_tree.proofs.Holding.{Contains-middle}
 use Rattle.sea_tree.proofs.MendNear.{put_leaf}
 use Rattle.sea_tree.proofs.Doing.{Does-then, Does-write, Does-known, overlaid-apart, ChangesAtMost-then, ChangesAtMost-write}
@@ -143,6 +147,42 @@ once_some {a} {b} {c} ws s can done placed amends = record {
   ];
   here = inr (inr (s.delta, amends.splices ∙ ap (λ (ds : List Delta). ds ++ s.delta ∷ []) (done.splices s.at.0 can.alone), s.small));
 }
+
+-- How the addresses of a plan are written: without a splice whole,
+pub written_none : {old new : Seen} (plan : Plan) → plan.splice ≡ None → ArePlaced (changes_of plan.writes) new → IsWritten plan old new
+written_none {old} {new} plan none placed = record {
+  amended = subst (λ (o : Option Splice). IfSome o (λ s. new.splices s.at.0 ≡ old.splices s.at.0 ++ s.delta ∷ [])) (sym none) tt;
+  placed = λ q among other. placed q (subst (λ (o : Option Splice). is_among (spliced_before o (changes_of plan.writes)) q ≡ true) none among);
+}
+
+-- and with one all others whole
+pub written_some : {a b c : Seen} (plan : Plan) (s : Splice) → plan.splice ≡ Some s → Splices a plan.writes s → Does (changes_of plan.writes) a b → ArePlaced (changes_of plan.writes) b → Amends s.at.0 s.delta s.block b c → IsWritten plan a c
+written_some {a} {b} {c} plan s is can done placed amends = record {
+  amended = subst (λ (o : Option Splice). IfSome o (λ t. c.splices t.at.0 ≡ a.splices t.at.0 ++ t.delta ∷ [])) (sym is)
+      (amends.splices ∙ ap (λ (ds : List Delta). ds ++ s.delta ∷ []) (done.splices s.at.0 can.alone));
+  placed = λ q among other.
+      let apart : q ≢ s.at.0 = subst (λ (o : Option Splice). IfSome o (λ t. q ≢ t.at.0)) is other in
+      elim (among_cases (s.at.0, Some s.block) (changes_of plan.writes) q (subst (λ (o : Option Splice). is_among (spliced_before o (changes_of plan.writes)) q ≡ true) is among)) [
+        | inl same ↦ absurd (apart same)
+        | inr later ↦ amends.writes.splices q apart ∙ placed q later
+      ];
+}
+
+-- the first pair of a tree is written whole
+pub first_whole : (root : ℕ) (old new : Seen) (plan : Plan) (block : Option (List ℕ)) → plan_changes plan ≡ (root, block) ∷ [] → plan.splice ≡ None → IsWritten plan old new → new.splices root ≡ []
+first_whole root old new plan block is none written =
+    written.placed root (subst (λ (cs : List Change). is_among cs root ≡ true) (sym is) (ap (λ (b : Bool). b || false) (eq-eqb root root refl)))
+    (subst (λ (o : Option Splice). IfSome o (λ s. root ≢ s.at.0)) (sym none) tt)
+
+-- a node that keeps its place and is written whole
+pub kept_whole : (at : ℕ) (entries : List Entry) (edit : Edit) (before : List Change) (splice : Option Splice) → splice ≡ None → ((key : List ℕ) (value : Option (List ℕ)) → edit ≡ Pair key value → is_among before at ≡ true) → IsKept at entries edit before splice
+kept_whole at entries (Pair key value) before splice none among =
+    subst (λ (o : Option Splice). MatchOption o (is_among before at ≡ true) (IsSpliceOf at entries key value)) (sym none) (among key value refl)
+kept_whole at entries (Moved from to) before splice none among = none
+
+-- or by its splice
+pub kept_spliced : (at : ℕ) (entries : List Entry) (edit : Edit) (key : List ℕ) (value : Option (List ℕ)) (before : List Change) (s : Splice) → edit ≡ Pair key value → IsSpliceOf at entries key value s → IsKept at entries edit before (Some s)
+kept_spliced at entries edit key value before s is own = subst (λ (e : Edit). IsKept at entries e before (Some s)) (sym is) own
 
 -- reads before don't matter
 pub once_since : {a b c : Seen} → Does [] a b → SplicesOnce 1091 b c → SplicesOnce 1091 a c

@@ -17,12 +17,18 @@ use Rattle.sea_tree.specs.declared.fault.TreeFault.TheVariants.{Space, Broken}
 use Rattle.sea_tree.specs.Tree.{root_bounds, IsNodeOf}
 use Rattle.sea_tree.specs.Content.{HasContent}
 use Rattle.sea_tree.specs.Breaks.{Breaks, IsFull, FillsFewer}
-use Rattle.sea_tree.specs.Calls.{Meets, Becomes, ChangesOwn, IsPathFault, IsChangeFault, IsPlanFault, IsUnchanged, IsWholePath, IsOfSpace}
-use Rattle.sea_tree.specs.Does.{Change, overlaid, is_among, Does, ChangesAtMost}
+use Rattle.sea_base.specs.declared.space.SpaceFault.TheVariants.{NoMemory}
+use Rattle.sea_tree.specs.Calls.{Meets, Becomes, ChangesOwn, ChangeFootprint, ChangeFailure, IsPathFault, IsChangeFault, IsPlanFault, IsUnchanged, IsWholePath, IsOfSpace}
+use Rattle.sea_tree.specs.Reads.{ReadsPath, ReadsNear, ReadsNothing}
+use Rattle.sea_tree.specs.declared.plan.Plan.{Plan}
+use Rattle.sea_tree.specs.Plan.{plan_changes, plan_fills}
+use Rattle.sea_tree.proofs.Nears.{run_near, path_near}
+use Rattle.sea_tree.proofs.Performing.{read_unchanged, unchanged_since, once_since, once_none, placed_none}
+use Rattle.sea_tree.specs.Does.{Change, overlaid, is_among, Does, ChangesAtMost, SplicesOnce}
 use Rattle.sea_tree.specs.Changing.{Changed, changed_content, IsPlanned, TouchesOwn}
 use Rattle.sea_tree.proofs.Apart.{IsNodeOf-root, few_levels}
 use Rattle.sea_tree.proofs.Counting.{full_refuted}
-use Rattle.sea_tree.proofs.Doing.{Does-agrees, Does-laid, overlaid-same, ChangesAtMost-read, ChangesAtMost-then}
+use Rattle.sea_tree.proofs.Doing.{Does-read, Does-agrees, Does-laid, overlaid-same, ChangesAtMost-read, ChangesAtMost-then}
 use Rattle.sea_tree.proofs.Holding.{whole_tree, breaks_from_path}
 use Rattle.sea_tree.proofs.MendRoot.{planted}
 use Rattle.sea_tree.proofs.MendSides.{puts_one}
@@ -150,3 +156,46 @@ run_whole root key old mid planned new changes run whole store at agrees = whole
 
 pub run_agrees : (old mid planned new : Seen) (changes : List Change) → Run old mid planned new changes → (store : Store) → Agrees store new → Agrees store mid
 run_agrees old mid planned new changes run store agrees = Does-agrees [] run.plans store (Does-agrees changes run.writes store agrees)
+
+-- ---- what a whole call promises
+
+-- where reads and the plan were made, and then the writes
+pub run_footprint : (root : ℕ) (key : List ℕ) (old mid planned new : Seen) (plan : Plan) → Run old mid planned new (plan_changes plan) → IsWholePath root key old mid → ReadsPath root key old mid → ReadsNear root key mid planned → TouchesOwn root mid planned (plan_changes plan)
+    → plan_fills plan ≤ 17 → ChangesAtMost (plan_fills plan) planned new → SplicesOnce 1091 planned new → ReadsNothing planned new → ChangeFootprint root key old new
+run_footprint root key old mid planned new plan run whole path near own le few once unread = record {
+  whole = run_whole root key old mid planned new (plan_changes plan) run whole;
+  near = run_near root key old mid planned new run.reads path run.plans near (plan_changes plan) run.writes unread;
+  own = run_touches root old mid planned new (plan_changes plan) run own;
+  few = run_few old mid planned new (plan_changes plan) (plan_fills plan) run le few;
+  once = once_since (Does-read run.reads) (once_since run.plans once);
+}
+
+-- where the path was read alone
+pub read_footprint : (root : ℕ) (key : List ℕ) (old new : Seen) → OnlyRead old new → IsWholePath root key old new → ReadsPath root key old new → ChangeFootprint root key old new
+read_footprint root key old new reads whole path = record {
+  whole = whole;
+  near = path_near root key old new path;
+  own = λ store at agrees changed. inl (sym (reads.changed at) ∙ changed);
+  few = fewer 0 17 (omega arith) (ChangesAtMost-read reads);
+  once = once_none [] (Does-read reads) (placed_none new);
+}
+
+-- where the path breaks
+pub path_fails : (root : ℕ) (key : List ℕ) (old new : Seen) → OnlyRead old new → (fault : TreeFault) → IsPathFault root key old new fault → ChangeFailure root key old new fault
+path_fails root key old new reads fault cause = record {
+  blames = path_fault root key old new fault cause;
+  never_full = of_space root key old new fault (path_fault root key old new fault cause);
+  unchanged = read_unchanged (Does-read reads) fault;
+}
+
+-- where nothing was planned
+pub plan_fails : (root : ℕ) (key : List ℕ) (old mid new : Seen) → OnlyRead old mid → IsWholePath root key old mid → (fault : TreeFault) → IsUnchanged mid new fault → IsPlanFault root mid new fault → ChangeFailure root key old new fault
+plan_fails root key old mid new reads whole fault same cause = record {
+  blames = fault_since root key old mid new reads whole fault same cause;
+  never_full = of_space root key old new fault (fault_since root key old mid new reads whole fault same cause);
+  unchanged = unchanged_since (Does-read reads) new fault same;
+}
+
+-- where memory ran out
+pub memory_fails : (root : ℕ) (key : List ℕ) (old new : Seen) → ChangeFailure root key old new (Space NoMemory)
+memory_fails root key old new = record { blames = tt; never_full = λ store content meets few. tt; unchanged = tt }

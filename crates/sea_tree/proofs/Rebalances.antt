@@ -1,5 +1,5 @@
 -- Rebalancing a node: parts of its entries, and a neighbour that is read.
-use Rattle.std.proofs.Common.{◌≡◌, inl, inr, ℕ, zero, suc, ◌+◌, ◌-◌, ◌<◌, ◌≤◌, Bool, List, [], ◌∷◌, ◌++◌, length, get_or, take, drop, Option, Some, None, refl, sym, ap, subst, ◌∙◌, arith, append_assoc, length-append, length-take, take-append-drop}
+use Rattle.std.proofs.Common.{◌≡◌, inl, inr, ℕ, zero, suc, ◌+◌, ◌-◌, ◌<◌, ◌≤◌, List, [], ◌∷◌, ◌++◌, length, get_or, take, drop, Option, Some, None, refl, sym, ap, subst, ◌∙◌, arith, append_assoc, length-append, length-take, take-append-drop}
 use Rattle.std.specs.List.{All, AllByRecursion}
 use Rattle.std.proofs.lemmas.List.Elements.{All-append, recursion_from_All}
 use Rattle.sea_base.specs.Field.{big_endian}
@@ -21,6 +21,7 @@ use Rattle.sea_tree.specs.Breaks.{IsBroken, Child}
 use Rattle.sea_tree.specs.Cut.{IsCut}
 use Rattle.sea_tree.specs.Does.{Change}
 use Rattle.sea_tree.specs.Place.{Splits, IsPlaceFault}
+use Rattle.sea_tree.specs.Reads.{ReadsNothing, ReadsOnly}
 use Rattle.sea_tree.specs.Mending.{IsNearPlace, IsPart}
 use Rattle.sea_tree.specs.Rebalanced.{IsNearChild, HasChild, AreHalves, AreNeighbours, Merged, Redistributed, Merges, Redistributes, SplitsInTwo, IsRebalanceFault}
 use Rattle.sea_tree.proofs.Cuts.{cut_parts}
@@ -58,9 +59,9 @@ first_is (f ∷ es) e filled at = sym (ap (λ (x : Entry). x.0) at)
 
 -- what a split plans
 pub split_rebalanced : (level at : ℕ) (entries : List Entry) (old new : Seen) (before mid after : List Change) (front back : Node) (fresh : ℕ) (key value : List ℕ) (e : Entry) → 4064 < size entries → AreHalves level entries front back → fresh ≡ old.next → new.next ≡ old.next + 1
-    → mid ≡ (at, Some (node_bytes front.level front.entries)) ∷ before → after ≡ (fresh, Some (node_bytes back.level back.entries)) ∷ mid → e ≡ get_or back.entries 0 e → key ≡ e.0 → value ≡ big_endian 8 fresh
+    → mid ≡ (at, Some (node_bytes front.level front.entries)) ∷ before → after ≡ (fresh, Some (node_bytes back.level back.entries)) ∷ mid → e ≡ get_or back.entries 0 e → key ≡ e.0 → value ≡ big_endian 8 fresh → ReadsNothing old new
     → (changes : List Change) × (after ≡ changes ++ before) × SplitsInTwo level at entries old new changes (Some (Pair key (Some value)))
-split_rebalanced level at entries old new before mid after front back fresh key value e large are is_fresh next first second at_e is_key is_value = (
+split_rebalanced level at entries old new before mid after front back fresh key value e large are is_fresh next first second at_e is_key is_value unread = (
   (fresh, Some (node_bytes back.level back.entries)) ∷ (at, Some (node_bytes front.level front.entries)) ∷ [],
   second ∙ ap (λ (cs : List Change). (fresh, Some (node_bytes back.level back.entries)) ∷ cs) first,
   record {
@@ -77,6 +78,7 @@ split_rebalanced level at entries old new before mid after front back fresh key 
         let k : key ≡ first_key back.entries = is_key ∙ sym (first_is back.entries e are.back_part.0 at_e) in
         let v : value ≡ big_endian 8 old.next = is_value ∙ ap (big_endian 8) is_fresh in
         λ j. Some (Pair (k j) (Some (v j)));
+    unread = unread;
   },
 )
 
@@ -222,9 +224,9 @@ module _ (level at : ℕ) (es : List Entry) (parent : Step) (old new : Seen) (he
   -- a child in hand and its right neighbour
   pub right_held : (q : ℕ) (fs : List Entry) (e : Entry) → IsRising parent.node.entries → parent.index + 1 < length parent.node.entries → IsNearChild parent level at es → size es < 1016
       → HasChild new.view parent (parent.index + 1) level q fs → ((store : Store) → Agrees store new → HasChild (laid old store) parent (parent.index + 1) level q fs)
-      → e ≡ get_or parent.node.entries (parent.index + 1) e → held.left.0 ≡ at → held.right.0 ≡ q → held.separator ≡ e.0 → held.both.level ≡ level → held.both.entries ≡ es ++ fs
+      → e ≡ get_or parent.node.entries (parent.index + 1) e → held.left.0 ≡ at → held.right.0 ≡ q → held.separator ≡ e.0 → held.both.level ≡ level → held.both.entries ≡ es ++ fs → ReadsOnly q old new
       → AreNeighbours level at es parent old new held
-  right_held q fs e rising within near small has laid_has at_e left right separator level_is both =
+  right_held q fs e rising within near small has laid_has at_e left right separator level_is both only =
       let t = two_at_index parent.node.entries parent.index within in
       let mine = near t.before (t.two ∷ t.after) t.one t.first in
       let other = has (t.before ++ t.one ∷ []) t.after t.two t.second in
@@ -246,7 +248,7 @@ module _ (level at : ℕ) (es : List Entry) (parent : Step) (old new : Seen) (he
           split = t.first.split;
           one_address = mine.0;
           two_address = other.0;
-          sides = inl (sym t.first.count, refl, refl, λ store agrees. (laid_has store agrees (t.before ++ t.one ∷ []) t.after t.two t.second).1);
+          sides = inl (sym t.first.count, refl, refl, λ store agrees. (laid_has store agrees (t.before ++ t.one ∷ []) t.after t.two t.second).1, only);
         };
         left = sym left;
         right = sym right;
@@ -269,9 +271,9 @@ module _ (level at : ℕ) (es : List Entry) (parent : Step) (old new : Seen) (he
   -- the last child in hand and its left neighbour
   pub left_held : (q : ℕ) (fs : List Entry) (e : Entry) → IsRising parent.node.entries → 1 ≤ parent.index → parent.index < length parent.node.entries → length parent.node.entries ≤ parent.index + 1 → IsNearChild parent level at es → size es < 1016
       → HasChild new.view parent (parent.index - 1) level q fs → ((store : Store) → Agrees store new → HasChild (laid old store) parent (parent.index - 1) level q fs)
-      → e ≡ get_or parent.node.entries parent.index e → held.left.0 ≡ q → held.right.0 ≡ at → held.separator ≡ e.0 → held.both.level ≡ level → held.both.entries ≡ fs ++ es
+      → e ≡ get_or parent.node.entries parent.index e → held.left.0 ≡ q → held.right.0 ≡ at → held.separator ≡ e.0 → held.both.level ≡ level → held.both.entries ≡ fs ++ es → ReadsOnly q old new
       → AreNeighbours level at es parent old new held
-  left_held q fs e rising some within last near small has laid_has at_e left right separator level_is both =
+  left_held q fs e rising some within last near small has laid_has at_e left right separator level_is both only =
       let i = parent.index - 1 in
       let next : parent.index ≡ i + 1 = omega arith in
       let t = two_at_index parent.node.entries i (omega arith) in
@@ -296,7 +298,7 @@ module _ (level at : ℕ) (es : List Entry) (parent : Step) (old new : Seen) (he
           split = t.first.split;
           one_address = other.0;
           two_address = mine.0;
-          sides = inr (next ∙ ap (λ (n : ℕ). n + 1) (sym t.first.count), no_more i t (omega arith), refl, refl, λ store agrees. (laid_has store agrees t.before (t.two ∷ t.after) t.one t.first).1);
+          sides = inr (next ∙ ap (λ (n : ℕ). n + 1) (sym t.first.count), no_more i t (omega arith), refl, refl, λ store agrees. (laid_has store agrees t.before (t.two ∷ t.after) t.one t.first).1, only);
         };
         left = sym left;
         right = sym right;

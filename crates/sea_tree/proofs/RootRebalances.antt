@@ -1,12 +1,9 @@
 -- Rebalancing a root: what a plan leaves at an address, and what the root is rebalanced to.
-use Rattle.std.proofs.Common.{◌≡◌, inl, inr, ℕ, zero, suc, ◌+◌, ◌<◌, ◌≤◌, ◌==◌, ◌||◌, Bool, true, false, cond, List, [], ◌∷◌, ◌++◌, length, get_or, take, map, reverse, Option, Some, None, refl, sym, ap, subst, ◌∙◌, arith, add-one}
-use Rattle.std.specs.declared.result.Result.{Result}
-use Rattle.std.specs.declared.result.Result.TheVariants.{Ok, Err}
-use Rattle.std.specs.Result.{IfOk, OnOk}
+use Rattle.std.proofs.Common.{◌≡◌, ℕ, zero, suc, ◌+◌, ◌<◌, ◌≤◌, ◌==◌, ◌||◌, Bool, true, false, cond, List, [], ◌∷◌, ◌++◌, length, get_or, take, map, reverse, Option, Some, None, refl, sym, ap, subst, ◌∙◌, arith, add-one}
 use Rattle.std.proofs.lemmas.Bool.{true≢false}
 use Rattle.std.proofs.lemmas.List.{map-append, reverse-append, take_all}
-use Rattle.sea_base.specs.Space.{Store, Seen, IsKnown, IsSound, Agrees, laid, OnlyRead}
-use Rattle.sea_base.proofs.Spaces.{laid_known, laid-only_read}
+use Rattle.sea_base.specs.Space.{Store, Seen, IsKnown, IsSound, Agrees, laid}
+use Rattle.sea_base.proofs.Spaces.{laid_known}
 use Rattle.sea_node.specs.declared.node.Node.{Node}
 use Rattle.sea_node.specs.Entries.{Entry, size}
 use Rattle.sea_node.specs.Node.{IsNode, node_bytes}
@@ -15,11 +12,11 @@ use Rattle.sea_tree.specs.Tree.{NodeAt, root_bounds, IsAddress}
 use Rattle.sea_tree.specs.Breaks.{HasNode, IsFull}
 use Rattle.sea_tree.specs.Mending.{IsNearPlace}
 use Rattle.sea_tree.specs.Rebalanced.{AreHalves}
-use Rattle.sea_tree.specs.Changing.{root_entries, RootSplits, RootCollapses, RootRebalanced}
+use Rattle.sea_tree.specs.Changing.{root_entries, RootFits, RootSplits, RootCollapses, RootEmpties}
 use Rattle.sea_tree.specs.Does.{Change, overlaid, is_among}
 use Rattle.sea_tree.specs.declared.splice.Splice.{Splice}
 use Rattle.sea_tree.specs.Plan.{change_of, changes_of, spliced_before}
-use Rattle.sea_tree.proofs.Doing.{overlaid-apart, is_among-append}
+use Rattle.sea_tree.proofs.Doing.{is_among-append}
 use Rattle.sea_tree.proofs.MendNear.{halves, IsNode-near}
 use Rattle.sea_tree.proofs.MendRoot.{IsNode-root}
 
@@ -96,19 +93,11 @@ module _ (at : ℕ) where
     planned_last plan n w within is here passes =
         sym (ap (λ (cs : List Change). overlaid cs store at) (changes_reversed plan) ∙ stands (reverse plan) n w within is here passes)
 
-    -- without one, what stood there does
-    pub planned_none : (plan : List Write) (n : ℕ) → length (reverse plan) ≤ n → Passes (reverse plan) n → overlaid (changes_of plan) store at ≡ store at
-    planned_none plan n all passes =
-        ap (λ (cs : List Change). overlaid cs store at) (changes_reversed plan)
-        ∙ overlaid-apart (map change_of (reverse plan)) store at (subst (λ (writes : List Write). is_among (map change_of writes) at ≡ false) (take_all n (reverse plan) all) passes)
-
-pub if_ok_both : {X Y : Type 0} (r : Result X Y) (P : X → Type 0) (Q : Type 0) (R : X → Type 0) → ((x : X) → P x → Q → R x) → IfOk r P → OnOk r Q → IfOk r R
-if_ok_both (Ok x) P Q R f p q = f x p q
-if_ok_both (Err e) P Q R f p q = tt
-
--- what was read at an address stood there before the reads, on each store that agrees
-pub laid_read : (old new : Seen) (at : ℕ) → OnlyRead old new → IsSound new → IsKnown new at → (store : Store) → Agrees store new → new.view at ≡ laid old store at
-laid_read old new at r sound known store agrees = sym (laid_known new store sound agrees at known) ∙ laid-only_read r store at
+  -- without one, nothing is planned there
+  pub planned_absent : (plan : List Write) (n : ℕ) → length (reverse plan) ≤ n → Passes (reverse plan) n → is_among (changes_of plan) at ≡ false
+  planned_absent plan n all passes =
+      ap (λ (cs : List Change). is_among cs at) (changes_reversed plan)
+      ∙ subst (λ (writes : List Write). is_among (map change_of writes) at ≡ false) (take_all n (reverse plan) all) passes
 
 -- one write more
 pub changes_push : (plan : List Write) (w : Write) → changes_of (plan ++ w ∷ []) ≡ change_of w ∷ changes_of plan
@@ -121,11 +110,11 @@ abbrev pub Planned : List Change → List Change → (List Change → Type 0) �
 Planned before after P = (changes : List Change) × (after ≡ changes ++ before) × P changes
 
 module _ (level root : ℕ) (entries : List Entry) (near : IsNearPlace level root_bounds entries) where
-  pub root_fits : (seen : Seen) (before after : List Change) → 1 ≤ length entries → (1 ≤ level → 2 ≤ length entries) → size entries ≤ 4064 → after ≡ (root, Some (node_bytes level entries)) ∷ before → Planned before after (RootRebalanced level root entries seen seen before)
+  pub root_fits : (seen : Seen) (before after : List Change) → 1 ≤ length entries → (1 ≤ level → 2 ≤ length entries) → size entries ≤ 4064 → after ≡ (root, Some (node_bytes level entries)) ∷ before → Planned before after (RootFits level root entries seen seen)
   root_fits seen before after some two fits planned = (
     (root, Some (node_bytes level entries)) ∷ [],
     planned,
-    inl (record { node = IsNode-near level root_bounds entries near some two fits; planned = refl; next = refl }),
+    record { node = IsNode-near level root_bounds entries near some two fits; planned = refl; next = refl },
   )
 
   none_below : (n : ℕ) → (1 ≤ n → 1 ≤ length entries) → length entries ≡ 0 → n ≡ 0
@@ -136,11 +125,11 @@ module _ (level root : ℕ) (entries : List Entry) (near : IsNearPlace level roo
   no_entries [] none = refl
   no_entries (e ∷ es) none = absurd (omega arith)
 
-  pub root_empties : (seen : Seen) (before after : List Change) → length entries ≡ 0 → after ≡ (root, None) ∷ before → Planned before after (RootRebalanced level root entries seen seen before)
+  pub root_empties : (seen : Seen) (before after : List Change) → length entries ≡ 0 → after ≡ (root, None) ∷ before → Planned before after (RootEmpties level root entries seen seen)
   root_empties seen before after none planned = (
     (root, None) ∷ [],
     planned,
-    inr (inr (inr (record { leaf = none_below level (λ h. (near.first h).0) none; empty = no_entries entries none; planned = refl; next = refl }))),
+    record { leaf = none_below level (λ h. (near.first h).0) none; empty = no_entries entries none; planned = refl; next = refl },
   )
 
   module _ (front back : Node) (are : AreHalves level entries front back) (low : level < 7) (over : List Entry) (first : ℕ) (is_over : over ≡ root_entries first back.entries) where
@@ -171,10 +160,10 @@ module _ (level root : ℕ) (entries : List Entry) (near : IsNearPlace level roo
         )
 
 -- the root takes what is to stand at its one child
-pub root_collapses : (level root : ℕ) (entries : List Entry) (first : Entry) (child : ℕ) (block : Option (List ℕ)) (old new : Seen) (before one two : List Change) → 1 ≤ level → length entries ≡ 1 → IsAddress (get_or entries 0 first).1 child → ((store : Store) → Agrees store new → block ≡ overlaid before (laid old store) child) → one ≡ (root, block) ∷ before → two ≡ (child, None) ∷ one → new.next ≡ old.next → Planned before two (RootCollapses level root entries old new before)
-root_collapses zero root entries first child block old new before one two above alone address stands is_one is_two next = absurd (omega arith)
-root_collapses (suc below) root [] first child block old new before one two above alone address stands is_one is_two next = absurd (omega arith)
-root_collapses (suc below) root (only ∷ []) first child block old new before one two above alone address stands is_one is_two next = (
+pub root_collapses : (level root : ℕ) (entries : List Entry) (first : Entry) (child : ℕ) (block : Option (List ℕ)) (seen : Seen) (before one two : List Change) → 1 ≤ level → length entries ≡ 1 → IsAddress (get_or entries 0 first).1 child → ((store : Store) → block ≡ overlaid before store child) → one ≡ (root, block) ∷ before → two ≡ (child, None) ∷ one → Planned before two (RootCollapses level root entries seen seen before)
+root_collapses zero root entries first child block seen before one two above alone address stands is_one is_two = absurd (omega arith)
+root_collapses (suc below) root [] first child block seen before one two above alone address stands is_one is_two = absurd (omega arith)
+root_collapses (suc below) root (only ∷ []) first child block seen before one two above alone address stands is_one is_two = (
   (child, None) ∷ (root, block) ∷ [],
   is_two ∙ ap (λ (cs : List Change). (child, None) ∷ cs) is_one,
   record {
@@ -187,17 +176,23 @@ root_collapses (suc below) root (only ∷ []) first child block old new before o
     address = address;
     child_block = stands;
     planned = refl;
-    next = next;
+    next = refl;
   },
 )
-root_collapses (suc below) root (only ∷ another ∷ rest) first child block old new before one two above alone address stands is_one is_two next = absurd (omega arith)
+root_collapses (suc below) root (only ∷ another ∷ rest) first child block seen before one two above alone address stands is_one is_two = absurd (omega arith)
 
--- A plan without a splice rebalances the root as its writes do.
-pub rebalanced_whole : (s : Option Splice) (level root : ℕ) (entries : List Entry) (old new : Seen) (before after : List Change) → s ≡ None
-    → (changes : List Change) × (after ≡ changes ++ before) × RootRebalanced level root entries old new before changes
-    → (changes : List Change) × (spliced_before s after ≡ changes ++ spliced_before s before) × RootRebalanced level root entries old new (spliced_before s before) changes
-rebalanced_whole s level root entries old new before after none done =
-    subst (λ (o : Option Splice). (changes : List Change) × (spliced_before o after ≡ changes ++ spliced_before o before) × RootRebalanced level root entries old new (spliced_before o before) changes) (sym none) done
+-- the only entry is the first
+pub only_first : (entries : List Entry) (first : Entry) → length entries ≡ 1 → (only : Entry) × (entries ≡ only ∷ []) × (get_or entries 0 first ≡ only)
+only_first [] first one = absurd (omega (arith, one))
+only_first (only ∷ []) first one = (only, refl, refl)
+only_first (only ∷ another ∷ rest) first one = absurd (omega (arith, one))
+
+-- A plan without a splice rebalances the root as its writes do, and writes all whole.
+pub rebalanced_whole : (s : Option Splice) (before after : List Change) (How : List Change → List Change → Type 0) → s ≡ None
+    → (changes : List Change) × (after ≡ changes ++ before) × How before changes
+    → (changes : List Change) × (spliced_before s after ≡ changes ++ spliced_before s before) × How (spliced_before s before) changes
+rebalanced_whole s before after How none done =
+    subst (λ (o : Option Splice). (changes : List Change) × (spliced_before o after ≡ changes ++ spliced_before o before) × How (spliced_before o before) changes) (sym none) done
 
 -- a root of the highest level with too many entries can't grow
 pub root_full : (seen : Seen) (level root : ℕ) (entries : List Entry) → IsSound seen → IsKnown seen root → HasNode seen.view level root root_bounds entries → level ≡ 7 → 3989 < size entries → (store : Store) → Agrees store seen → IsFull (laid seen store) root

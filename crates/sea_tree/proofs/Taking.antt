@@ -8,15 +8,11 @@ use Rattle.std.specs.declared.cmp.Ordering.{Ordering}
 use Rattle.std.specs.declared.cmp.Ordering.TheVariants.{Less, Equal, Greater}
 use Rattle.std.specs.FinMap as map
 use Rattle.sea_base.specs.Space.{Store, Seen, IsKnown, IsSound, Agrees, OnlyRead, laid}
-use Rattle.sea_base.proofs.Spaces.{laid-only_read}
 use Rattle.sea_node.specs.Entries.{Entry, Values, IsNotAbove}
 use Rattle.sea_node.proofs.Keys.{IsNotAbove-trans, IsNotAbove-below, below_then_not_above, not_above_then_below, least_key}
-use Rattle.sea_tree.specs.declared.fault.TreeFault.{TreeFault}
-use Rattle.sea_tree.specs.declared.fault.TreeFault.TheVariants.{Space, Broken}
 use Rattle.sea_tree.specs.declared.path.Path.{Path}
 use Rattle.sea_tree.specs.Tree.{Bounds, root_bounds, IsWithin, LiesWithin}
 use Rattle.sea_tree.specs.Content.{HasContent}
-use Rattle.sea_tree.specs.Breaks.{Breaks}
 use Rattle.sea_tree.specs.Calls.{pairs_above}
 use Rattle.sea_tree.specs.Place.{meant}
 use Rattle.sea_tree.specs.Path.{IsKnownPath}

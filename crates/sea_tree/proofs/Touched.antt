@@ -1,8 +1,8 @@
 -- Which addresses a change of one pair writes: those of the path and of its neighbours, and what was given.
-use Rattle.std.proofs.Common.{◌≡◌, ◌⊎◌, ℕ, zero, suc, ◌+◌, ◌<◌, ◌≤◌, List, [], ◌∷◌, ◌++◌, Bool, true, false, ◌==◌, ◌||◌, Option, Some, None, refl, sym, ◌∙◌, ap, subst, inl, inr, arith}
+use Rattle.std.proofs.Common.{◌≡◌, ◌⊎◌, ℕ, zero, suc, ◌<◌, ◌≤◌, List, [], ◌∷◌, ◌++◌, Bool, true, false, ◌==◌, ◌||◌, Option, refl, sym, ◌∙◌, ap, subst, inl, inr, arith}
 use Rattle.std.specs.List.{Contains}
 use Rattle.std.proofs.lemmas.Bool.{eqb-true, true≢false}
-use Rattle.sea_base.specs.Space.{Store, Seen, Agrees, laid}
+use Rattle.sea_base.specs.Space.{Store, Seen}
 use Rattle.sea_node.specs.Entries.{Entry}
 use Rattle.sea_tree.specs.declared.edit.Edit.{Edit}
 use Rattle.sea_tree.specs.declared.path.Step.{Step}
@@ -43,6 +43,9 @@ among_three {changes} {a} {b} {c} {x} {y} {z} are q e = elim (among_cases (a, x)
 
 pub among_append : (later first : List Change) (q : ℕ) → is_among (later ++ first) q ≡ true → (is_among later q ≡ true) ⊎ (is_among first q ≡ true)
 among_append later first q e = either_true (is_among later q) (is_among first q) (sym (is_among-append later first q) ∙ e)
+
+pub among_later : (later first : List Change) (q : ℕ) → is_among later q ≡ true → is_among (later ++ first) q ≡ true
+among_later later first q e = is_among-append later first q ∙ ap (λ (b : Bool). b || is_among first q) e
 
 pub child_in : (entries before : List Entry) (entry : Entry) (after : List Entry) (q : ℕ) → entries ≡ before ++ entry ∷ after → IsAddress entry.1 q → IsChildOf entries q
 child_in entries before entry after q split address = (entry, subst (λ (es : List Entry). Contains es entry) (sym split) (Contains-middle before entry after), address)

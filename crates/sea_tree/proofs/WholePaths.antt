@@ -1,11 +1,17 @@
 -- The paths to all the keys that the leaves of paths admit are whole, one leaf after the other.
-use Rattle.std.proofs.Common.{◌≡◌, ℕ, zero, suc, Bool, true, false, cond, List, ◌∷◌, [], ◌++◌, take, Option, Some, None, MatchOption, ◌∙◌, sym, subst, inl, inr}
+use Rattle.std.proofs.Common.{◌≡◌, ℕ, zero, suc, ◌<◌, ◌≤◌, Bool, true, false, cond, List, ◌∷◌, [], ◌++◌, length, take, Option, Some, None, MatchOption, ◌∙◌, refl, sym, ap, subst, inl, inr, arith}
+use Rattle.std.proofs.lemmas.Bool.{true≢false}
+use Rattle.std.specs.Option.{unwrap_or}
+use Rattle.std.specs.Ordering.{is_lt}
+use Rattle.std.specs.declared.cmp.Ordering.{Ordering}
+use Rattle.std.specs.declared.cmp.Ordering.TheVariants.{Less, Equal, Greater}
+use Rattle.sea_base.specs.Name.{IsName}
 use Rattle.std.specs.List.{All}
-use Rattle.std.proofs.lemmas.List.Elements.{All-cons, All-head, All-tail, All-take, All-append, All-weaker}
-use Rattle.sea_base.specs.Space.{Store, Seen, IsSound, Agrees, OnlyRead, laid}
+use Rattle.std.proofs.lemmas.List.Elements.{All-nil, All-cons, All-head, All-tail, All-take, All-append, All-weaker}
+use Rattle.sea_base.specs.Space.{Store, Seen, IsSound, OnlyRead, laid}
 use Rattle.sea_base.proofs.Spaces.{agrees_before}
-use Rattle.sea_node.specs.Entries.{Entry, IsBelow, IsNotAbove}
-use Rattle.sea_node.proofs.Keys.{compared, below_then_not_above, key_order-itself, IsNotAbove-itself, IsNotAbove-same, IsNotAbove-below, IsNotAbove-trans}
+use Rattle.sea_node.specs.Entries.{Entry, key_order, IsBelow, IsNotAbove, entries_before}
+use Rattle.sea_node.proofs.Keys.{least_key, not_above_not_below, compared, below_then_not_above, key_order-itself, IsNotAbove-itself, IsNotAbove-same, IsNotAbove-below, IsNotAbove-trans}
 use Rattle.sea_tree.specs.declared.fault.TreeFault.{TreeFault}
 use Rattle.sea_tree.specs.declared.fault.TreeFault.TheVariants.{Space, Broken}
 use Rattle.sea_tree.specs.declared.path.Step.{Step}
@@ -14,9 +20,9 @@ use Rattle.sea_tree.specs.Tree.{Bounds, LiesWithin, IsWithin, root_bounds}
 use Rattle.sea_tree.specs.Breaks.{IsBreakOnPath}
 use Rattle.sea_tree.specs.Calls.{IsWholePath, AreWholePaths, IsPathFault, IsRangeFault}
 use Rattle.sea_tree.specs.Place.{meant}
-use Rattle.sea_tree.specs.Reads.{IsOnPath, ReadsPath, ReadsRange, ReadsNothing}
+use Rattle.sea_tree.specs.Reads.{IsOnPath, ReadsAmong, ReadsPath, ReadsRange, ReadsNothing}
 use Rattle.sea_tree.specs.Range.{IsNextPath, entries_above, is_above}
-use Rattle.sea_tree.specs.Path.{StepsDown, Descends, IsPath, IsKnownPath}
+use Rattle.sea_tree.specs.Path.{Descends, IsKnownPath}
 use Rattle.sea_tree.proofs.Apart.{IsWithin-below}
 use Rattle.sea_tree.proofs.Walks.{one_store}
 use Rattle.sea_tree.proofs.Paths.{path_lies, path_laid, no_break}
@@ -71,7 +77,7 @@ module _ (old new : Seen) (root : ℕ) (reads : OnlyRead old new) (sound : IsSou
 
 -- ---- a range
 
-never : (from k : List ℕ) → IsNotAbove from k → IsBelow k from → ⊥
+pub never : (from k : List ℕ) → IsNotAbove from k → IsBelow k from → ⊥
 never from k above below =
     let itself : IsBelow k k = below_then_not_above k from k below above in
     let same = key_order-itself k in cc
@@ -121,18 +127,130 @@ within_next seen root path next found is all =
 
 -- ---- what a range reads
 
-pub range_first : (root : ℕ) (from : List ℕ) (old new : Seen) → ReadsPath root from old new → ReadsRange root from old new
-range_first root from old new reads at = elim (reads at) [
+lt_less : (o : Ordering) → is_lt o ≡ true → o ≡ Less
+lt_less Less e = refl
+lt_less Equal e = absurd (true≢false (sym e))
+lt_less Greater e = absurd (true≢false (sym e))
+
+count_all : (key : List ℕ) (es : List Entry) → length (entries_before key es) ≤ length es
+count_all key [] = omega arith
+count_all key (e ∷ es) =
+    let rest : length (entries_before key es) ≤ length es = count_all key es in
+    elim (is_lt (key_order e.0 key)) as (λ b. length (cond b (e ∷ entries_before key es) (entries_before key es)) ≤ length (e ∷ es)) [
+      | true ↦ omega (arith, rest)
+      | false ↦ omega (arith, rest)
+    ]
+
+-- pairs that are not below a key add none below it
+count_more : (key : List ℕ) (n : ℕ) (found more : List Entry) → All (λ e. IsNotAbove key e.0) more → length (entries_before key (take n (found ++ more))) ≤ length (entries_before key found)
+count_more key zero [] [] all = omega arith
+count_more key zero [] (e ∷ more) all = omega arith
+count_more key zero (e ∷ found) more all = omega arith
+count_more key (suc n) [] [] all = omega arith
+count_more key (suc n) [] (e ∷ more) all = by (count_more key n [] more (All-tail (λ (x : Entry). IsNotAbove key x.0) e more all)) (is_lt (key_order e.0 key)) refl
+  where
+    by : length (entries_before key (take n more)) ≤ 0 → (b : Bool) → is_lt (key_order e.0 key) ≡ b → length (cond b (e ∷ entries_before key (take n more)) (entries_before key (take n more))) ≤ 0
+    by rest true is = absurd (not_above_not_below key e.0 (All-head (λ (x : Entry). IsNotAbove key x.0) e more all) (lt_less (key_order e.0 key) is))
+    by rest false is = rest
+count_more key (suc n) (e ∷ found) more all =
+    let rest : length (entries_before key (take n (found ++ more))) ≤ length (entries_before key found) = count_more key n found more all in
+    elim (is_lt (key_order e.0 key)) as (λ b. length (cond b (e ∷ entries_before key (take n (found ++ more))) (entries_before key (take n (found ++ more)))) ≤ length (cond b (e ∷ entries_before key found) (entries_before key found))) [
+      | true ↦ omega (arith, rest)
+      | false ↦ rest
+    ]
+
+-- the pairs of a leaf above a bound are not below the key that a range begins at
+above_from : (after : Option (List ℕ)) (es : List Entry) → All (λ e. IsName e.0) es → All (λ e. IsNotAbove (unwrap_or after (0 ∷ [])) e.0) (entries_above after es)
+above_from after [] names = All-nil (λ (e : Entry). IsNotAbove (unwrap_or after (0 ∷ [])) e.0)
+above_from after (e ∷ es) names = by (above_from after es (All-tail (λ (x : Entry). IsName x.0) e es names)) (is_above after e.0) refl
+  where
+    first : (bound : Option (List ℕ)) → is_above bound e.0 ≡ true → IsNotAbove (unwrap_or bound (0 ∷ [])) e.0
+    first None is = least_key e.0 (All-head (λ (x : Entry). IsName x.0) e es names)
+    first (Some bound) is = IsNotAbove-below bound e.0 (lt_less (key_order bound e.0) is)
+
+    by : All (λ e. IsNotAbove (unwrap_or after (0 ∷ [])) e.0) (entries_above after es) → (b : Bool) → is_above after e.0 ≡ b → All (λ e. IsNotAbove (unwrap_or after (0 ∷ [])) e.0) (cond b (e ∷ entries_above after es) (entries_above after es))
+    by rest true is = All-cons (λ (x : Entry). IsNotAbove (unwrap_or after (0 ∷ [])) x.0) e (entries_above after es) (first after is) rest
+    by rest false is = rest
+
+-- What was read so far, for keys below the bound of the last leaf.
+abbrev pub ReadsUpto : ℕ → List ℕ → ℕ → List Entry → Option (List ℕ) → Seen → Seen → Type 0
+ReadsUpto root from limit found upper =
+    ReadsAmong (λ store at. (key : List ℕ) × IsNotAbove from key × IsWithin key upper × (length (entries_before key found) < limit) × IsOnPath store key root at)
+
+pub upto_range : (root : ℕ) (from : List ℕ) (limit : ℕ) (found : List Entry) (upper : Option (List ℕ)) (old new : Seen) → ReadsUpto root from limit found upper old new → ReadsRange root from limit found old new
+upto_range root from limit found upper old new reads at = elim (reads at) [
   | inl same ↦ inl same
-  | inr on ↦ inr (λ store agrees. (from, IsNotAbove-itself from, on store agrees))
+  | inr on ↦ inr (λ store agrees. let is = on store agrees in (is.0, is.1, is.3, is.4))
 ]
 
-pub range_next : (root : ℕ) (from : List ℕ) (old mid new : Seen) (upper : Option (List ℕ)) → OnlyRead old mid → OnlyRead mid new → IsWithin from upper → ReadsRange root from old mid → MatchOption upper (ReadsNothing mid new) (λ key. ReadsPath root key mid new) → ReadsRange root from old new
-range_next root from old mid new None first rest begun before same at = elim (before at) [
-  | inl was ↦ inl (same at ∙ was)
-  | inr on ↦ inr (λ store agrees. on store (agrees_before rest agrees))
+-- of an empty tree
+pub range_none : (root : ℕ) (from : List ℕ) (limit : ℕ) (found : List Entry) (old new : Seen) → 0 < limit → found ≡ [] → ReadsPath root from old new → ReadsRange root from limit found old new
+range_none root from limit found old new wanting none reads at = elim (reads at) [
+  | inl same ↦ inl same
+  | inr on ↦ inr (λ store agrees. (from, IsNotAbove-itself from, subst (λ (es : List Entry). length (entries_before from es) < limit) (sym none) wanting, on store agrees))
 ]
-range_next root from old mid new (Some key) first rest begun before reads at = elim (reads at) [
-  | inl same ↦ elim (before at) [ inl was ↦ inl (same ∙ was) | inr on ↦ inr (λ store agrees. on store (agrees_before rest agrees)) ]
-  | inr on ↦ inr (λ store agrees. (key, IsNotAbove-below from key begun, subst (λ (s : Store). IsOnPath s key root at) (one_store first store) (on store agrees)))
+
+-- of the first leaf
+pub range_first : (root : ℕ) (after : Option (List ℕ)) (limit : ℕ) (found : List Entry) (old new : Seen) (path : Path) → 0 < limit → IsKnownPath new root (unwrap_or after (0 ∷ [])) path → found ≡ take limit ([] ++ entries_above after path.leaf.entries) → ReadsPath root (unwrap_or after (0 ∷ [])) old new
+    → ReadsUpto root (unwrap_or after (0 ∷ [])) limit found path.bounds.upper old new
+range_first root after limit found old new path wanting known taken reads at = elim (reads at) [
+  | inl same ↦ inl same
+  | inr on ↦ inr (λ store agrees. (from, IsNotAbove-itself from, known.down.leads.1, few, on store agrees))
 ]
+  where
+    from : List ℕ
+    from = unwrap_or after (0 ∷ [])
+
+    few : length (entries_before from found) < limit
+    few =
+        let none : length (entries_before from (take limit ([] ++ entries_above after path.leaf.entries))) ≤ 0 = count_more from limit [] (entries_above after path.leaf.entries) (above_from after path.leaf.entries known.down.node.0.spells.node.keys) in
+        omega (arith, none, wanting, ap (λ (es : List Entry). length (entries_before from es)) taken)
+
+-- of the next one
+pub range_next : (root : ℕ) (from : List ℕ) (after : Option (List ℕ)) (limit : ℕ) (found taken : List Entry) (old mid new : Seen) (path next : Path) → OnlyRead old mid → OnlyRead mid new → IsNextPath new root path next → IsWithin from path.bounds.upper
+    → All (λ e. IsWithin e.0 path.bounds.upper) found → length found < limit → taken ≡ take limit (found ++ entries_above after next.leaf.entries)
+    → ReadsUpto root from limit found path.bounds.upper old mid → MatchOption path.bounds.upper (ReadsNothing mid new) (λ key. ReadsPath root key mid new) → ReadsUpto root from limit taken next.bounds.upper old new
+range_next root from after limit found taken old mid new path next first rest is begun below few is_taken before reads0 at = elim (reads at) [
+  | inl same ↦ elim (before at) [
+    | inl was ↦ inl (same ∙ was)
+    | inr on ↦ inr (λ store agrees.
+        let was = on store (agrees_before rest agrees) in
+        let low : IsBelow was.0 is.key = subst (IsWithin was.0) is.upper was.2 in
+        (was.0, was.1, IsWithin-below was.0 is.key next.bounds.upper low is.known.down.leads.1, still was.0 (IsNotAbove-below was.0 is.key low) was.3, was.4))
+  ]
+  | inr on ↦ inr (λ store agrees. (
+    is.key,
+    IsNotAbove-below from is.key (subst (IsWithin from) is.upper begun),
+    is.known.down.leads.1,
+    still is.key (IsNotAbove-itself is.key) (let all = count_all is.key found in omega (arith, all, few)),
+    subst (λ (s : Store). IsOnPath s is.key root at) (one_store first store) (on store agrees),
+  ))
+]
+  where
+    reads : ReadsPath root is.key mid new
+    reads = subst (λ (u : Option (List ℕ)). MatchOption u (ReadsNothing mid new) (λ key. ReadsPath root key mid new)) is.upper reads0
+
+    own : (key : List ℕ) → IsNotAbove key is.key → All (λ e. IsNotAbove key e.0) (entries_above after next.leaf.entries)
+    own key low =
+        let lower : All (λ e. IsNotAbove is.key e.0) next.leaf.entries = subst (λ (k : List ℕ). All (λ e. IsNotAbove k e.0) next.leaf.entries) is.lower is.known.down.node.1.lower in
+        all_above (λ (e : Entry). IsNotAbove key e.0) after next.leaf.entries (All-weaker (λ (e : Entry). IsNotAbove is.key e.0) (λ (e : Entry). IsNotAbove key e.0) (λ e above. IsNotAbove-trans key is.key e.0 low above) next.leaf.entries lower)
+
+    still : (key : List ℕ) → IsNotAbove key is.key → length (entries_before key found) < limit → length (entries_before key taken) < limit
+    still key low wanting =
+        let more = count_more key limit found (entries_above after next.leaf.entries) (own key low) in
+        omega (arith, more, wanting, ap (λ (es : List Entry). length (entries_before key es)) is_taken)
+
+-- and where there is no other
+pub range_last : (root : ℕ) (from : List ℕ) (limit : ℕ) (found : List Entry) (old mid new : Seen) (upper : Option (List ℕ)) → OnlyRead mid new → upper ≡ None → ReadsUpto root from limit found upper old mid → MatchOption upper (ReadsNothing mid new) (λ key. ReadsPath root key mid new) → ReadsRange root from limit found old new
+range_last root from limit found old mid new upper rest none before reads at =
+    let same : ReadsNothing mid new = subst (λ (u : Option (List ℕ)). MatchOption u (ReadsNothing mid new) (λ key. ReadsPath root key mid new)) none reads in
+    elim (upto_range root from limit found upper old mid before at) [
+      | inl was ↦ inl (same at ∙ was)
+      | inr on ↦ inr (λ store agrees. on store (agrees_before rest agrees))
+    ]
+
+-- where no pair is wanted
+pub none_wanted : (n : ℕ) (es : List Entry) → n ≡ 0 → take n es ≡ []
+none_wanted zero [] is = refl
+none_wanted zero (e ∷ es) is = refl
+none_wanted (suc n) es is = absurd (omega arith)

@@ -12,8 +12,11 @@ use Rattle.sea_tree.specs.declared.fault.TreeFault.{TreeFault}
 use Rattle.sea_tree.specs.declared.fault.TreeFault.TheVariants.{Space, Broken}
 use Rattle.sea_tree.specs.Tree.{IsTree, IsSubtree, root_bounds, IsNodeOf, AreApart, IsWithin}
 use Rattle.sea_tree.specs.Content.{HasContent}
-use Rattle.sea_tree.specs.Does.{Does}
-use Rattle.sea_tree.specs.Breaks.{Breaks, IsFirstBreak, IsBreakOnPath, IsFull}
+use Rattle.sea_node.specs.declared.reading.TheConstants.{ENTRY_BYTES}
+use Rattle.sea_tree.specs.declared.plan.TheConstants.{CHANGED_BLOCKS}
+use Rattle.sea_tree.specs.Does.{Does, ChangesAtMost, SplicesOnce}
+use Rattle.sea_tree.specs.Reads.{ReadsNear, ReadsTree}
+use Rattle.sea_tree.specs.Breaks.{Breaks, IsFirstBreak, IsBreakOnPath, IsFull, FillsFewer}
 
 -- A store that a call speaks of: it agrees with what was read as the call ends; with the changes
 -- made before the call laid over it, the tree is well formed and has this content; and no address
@@ -147,3 +150,44 @@ space_fault (Err (Broken at)) = None
 abbrev pub IsRootRebalanceFault : ℕ → Seen → Seen → TreeFault → Type 0
 IsRootRebalanceFault root old new =
     Blames (λ at. (at ≡ root) × ((store : Store) → Agrees store new → IsFull (laid old store) root))
+
+-- What a change of a pair that is Ok has read and written.
+pub record ChangeFootprint (root : ℕ) (key : List ℕ) (old new : Seen) : Type 0 where
+  -- the path to the key is whole
+  pub whole : IsWholePath root key old new
+  -- what was newly read lies on it, or is the neighbour of a node on it
+  pub near : ReadsNear root key old new
+  -- the tree's own addresses alone were changed
+  pub own : ChangesOwn root old new
+  -- few of those that were changed are filled still
+  pub few : ChangesAtMost CHANGED_BLOCKS old new
+  -- at most one splice was made, of at most an entry's bytes
+  pub once : SplicesOnce ENTRY_BYTES old new
+
+-- Why a change of a pair failed, and what stands then.
+pub record ChangeFailure (root : ℕ) (key : List ℕ) (old new : Seen)
+    (fault : TreeFault) : Type 0 where
+  -- a fault of the space, the first break on the path, a neighbour that breaks, or a tree that
+  -- can't grow
+  pub blames : IsChangeFault root key old new fault
+  -- on fewer than 2^25 filled addresses a well-formed tree can always grow
+  pub never_full : (store : Store) (content : Values) → Meets store root old new content
+      → FillsFewer (laid old store) (2 ^ 25) → IsOfSpace fault
+  -- nothing was changed, but where memory ran out
+  pub unchanged : IsUnchanged old new fault
+
+-- What a call that dropped a tree has read and written.
+pub record DropFootprint (root : ℕ) (old new : Seen) : Type 0 where
+  -- the tree was well formed
+  pub whole : (store : Store) → Agrees store new → IsTree (laid old store) root
+  -- what was newly read is its root or a node
+  pub within : ReadsTree root old new
+  -- its nodes alone were changed
+  pub own : DropsOwn root old new
+
+-- Why it failed, and what stands then.
+pub record DropFailure (root : ℕ) (old new : Seen) (fault : TreeFault) : Type 0 where
+  -- a fault of the space, or the first break of a walk
+  pub blames : IsWalkFault root old new fault
+  -- nothing was changed, but where memory ran out
+  pub unchanged : IsUnchanged old new fault

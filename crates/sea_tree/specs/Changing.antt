@@ -84,8 +84,7 @@ pub record RootCollapses (level root : ℕ) (entries : List Entry) (old new : Se
   pub level_is : level ≡ suc below
   pub one : entries ≡ only ∷ []
   pub address : IsAddress only.1 child
-  pub child_block : (store : Store) → Agrees store new
-      → block ≡ overlaid before (laid old store) child
+  pub child_block : (store : Store) → block ≡ overlaid before store child
   pub planned : changes ≡ (child, None) ∷ (root, block) ∷ []
   pub next : new.next ≡ old.next
 

@@ -1,5 +1,5 @@
 -- What is planned to be written, as changes of a store.
-use Rattle.std.specs.Prelude.{◌≡◌, ℕ, ◌+◌, List, [], ◌∷◌, ◌++◌, map, reverse, sum_by, false, Option, Some, None}
+use Rattle.std.specs.Prelude.{◌≡◌, ◌≢◌, ℕ, ◌+◌, List, [], ◌∷◌, ◌++◌, map, reverse, sum_by, true, false, Option, Some, None}
 use Rattle.std.specs.Option.{option_map, IfSome}
 use Rattle.sea_base.specs.Space.{Seen, IsKnown}
 use Rattle.sea_base.specs.Splice.{spliced}
@@ -40,6 +40,14 @@ one_filled (Some splice) = 1
 
 abbrev pub plan_fills : Plan → ℕ
 plan_fills plan = count_filled plan.writes + one_filled plan.splice
+
+-- How the addresses of a plan were written: one by its splice, if it has one, and each other whole,
+-- or dropped.
+pub record IsWritten (plan : Plan) (old new : Seen) : Type 0 where
+  pub amended : IfSome plan.splice
+      (λ splice. new.splices splice.at.0 ≡ old.splices splice.at.0 ++ splice.delta ∷ [])
+  pub placed : (at : ℕ) → is_among (plan_changes plan) at ≡ true
+      → IfSome plan.splice (λ splice. at ≢ splice.at.0) → new.splices at ≡ []
 
 -- The block that a splice changes is known, and nothing is planned at its address besides.
 pub record Splices (seen : Seen) (writes : List Write) (splice : Splice) : Type 0 where

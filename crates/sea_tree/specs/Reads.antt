@@ -1,8 +1,8 @@
 -- Which addresses a call reads.
-use Rattle.std.specs.Prelude.{◌≡◌, ◌⊎◌, ◌≤◌, ℕ, zero, suc, List}
+use Rattle.std.specs.Prelude.{◌≡◌, ◌⊎◌, ◌<◌, ℕ, zero, suc, List, [], ◌∷◌, ◌++◌, length}
 use Rattle.std.specs.List.{Contains}
 use Rattle.sea_base.specs.Space.{Store, Seen, Agrees, laid}
-use Rattle.sea_node.specs.Entries.{Entry, IsNotAbove}
+use Rattle.sea_node.specs.Entries.{Entry, IsNotAbove, entries_before}
 use Rattle.sea_tree.specs.Tree.{Bounds, root_bounds, LiesWithin, IsAddress, IsNodeOf}
 use Rattle.sea_tree.specs.Breaks.{HasNode, Child}
 
@@ -20,15 +20,21 @@ OnPath store key (suc level) at bounds q =
     × Child entries bounds.upper before after child b
     × LiesWithin key b × OnPath store key level child b q))
 
--- the children of the nodes on the path
-abbrev pub BelowPath : Store → List ℕ → ℕ → ℕ → Bounds → ℕ → Type 0
-BelowPath store key zero at bounds q = ⊥
-BelowPath store key (suc level) at bounds q =
+-- The neighbour of a child, with the entries before and after its own: the child of the next entry,
+-- or of the one before where there is no next.
+abbrev pub IsNeighbour : List Entry → List Entry → ℕ → Type 0
+IsNeighbour before (next ∷ after) q = IsAddress next.1 q
+IsNeighbour before [] q =
+    (front : List Entry) × (last : Entry) × (before ≡ front ++ last ∷ []) × IsAddress last.1 q
+
+-- the neighbours of the nodes on the path to a key
+abbrev pub BesidePath : Store → List ℕ → ℕ → ℕ → Bounds → ℕ → Type 0
+BesidePath store key zero at bounds q = ⊥
+BesidePath store key (suc level) at bounds q =
     (entries : List Entry) × HasNode store (suc level) at bounds entries
-    × (IsChildOf entries q
-    ⊎ ((before : List Entry) × (after : List Entry) × (child : ℕ) × (b : Bounds)
-    × Child entries bounds.upper before after child b
-    × LiesWithin key b × BelowPath store key level child b q))
+    × ((before : List Entry) × (after : List Entry) × (child : ℕ) × (b : Bounds)
+    × Child entries bounds.upper before after child b × LiesWithin key b
+    × (IsNeighbour before after q ⊎ BesidePath store key level child b q))
 
 -- the root, or an address reached so from it
 abbrev pub OfRoot : (ℕ → ℕ → Bounds → ℕ → Type 0) → Store → ℕ → ℕ → Type 0
@@ -40,8 +46,10 @@ OfRoot below store root q =
 abbrev pub IsOnPath : Store → List ℕ → ℕ → ℕ → Type 0
 IsOnPath store key root q = OfRoot (OnPath store key) store root q
 
+-- on the path, or the neighbour of a node on it
 abbrev pub IsNearPath : Store → List ℕ → ℕ → ℕ → Type 0
-IsNearPath store key root q = OfRoot (BelowPath store key) store root q
+IsNearPath store key root q =
+    IsOnPath store key root q ⊎ OfRoot (BesidePath store key) store root q
 
 -- what was newly read is one of these addresses
 abbrev pub ReadsAmong : (Store → ℕ → Type 0) → Seen → Seen → Type 0
@@ -57,23 +65,20 @@ ReadsPath root key = ReadsAmong (λ store at. IsOnPath store key root at)
 abbrev pub ReadsNear : ℕ → List ℕ → Seen → Seen → Type 0
 ReadsNear root key = ReadsAmong (λ store at. IsNearPath store key root at)
 
--- a child of a node with these entries alone
-abbrev pub ReadsChild : List Entry → Seen → Seen → Type 0
-ReadsChild entries old new = (at : ℕ) → (new.reads at ≡ old.reads at) ⊎ IsChildOf entries at
-
 -- nothing was newly read
 abbrev pub ReadsNothing : Seen → Seen → Type 0
 ReadsNothing old new = (at : ℕ) → new.reads at ≡ old.reads at
 
--- a child of a root of this level with these entries alone
-abbrev pub ReadsRootChild : ℕ → List Entry → Seen → Seen → Type 0
-ReadsRootChild level entries old new =
-    (at : ℕ) → (new.reads at ≡ old.reads at) ⊎ ((1 ≤ level) × IsChildOf entries at)
+-- or one address alone
+abbrev pub ReadsOnly : ℕ → Seen → Seen → Type 0
+ReadsOnly one old new = (at : ℕ) → (new.reads at ≡ old.reads at) ⊎ (at ≡ one)
 
--- on the paths to the keys from one on
-abbrev pub ReadsRange : ℕ → List ℕ → Seen → Seen → Type 0
-ReadsRange root from =
-    ReadsAmong (λ store at. (key : List ℕ) × IsNotAbove from key × IsOnPath store key root at)
+-- On the paths to the keys from one on, while pairs are wanting: below the key that an address was
+-- read for, fewer than wanted are found.
+abbrev pub ReadsRange : ℕ → List ℕ → ℕ → List Entry → Seen → Seen → Type 0
+ReadsRange root from limit found =
+    ReadsAmong (λ store at. (key : List ℕ) × IsNotAbove from key
+    × (length (entries_before key found) < limit) × IsOnPath store key root at)
 
 -- what was newly read is the root or a node of the tree
 abbrev pub ReadsTree : ℕ → Seen → Seen → Type 0

@@ -1,5 +1,5 @@
 -- What rebalancing one node below the root plans, and what it leaves to its parent.
-use Rattle.std.specs.Prelude.{◌≡◌, ◌⊎◌, ℕ, ◌+◌, ◌<◌, ◌≤◌, List, [], ◌∷◌, ◌++◌, length, Bool, Option, Some, None}
+use Rattle.std.specs.Prelude.{◌≡◌, ◌⊎◌, ℕ, ◌+◌, ◌<◌, ◌≤◌, List, [], ◌∷◌, ◌++◌, length, Option, Some, None}
 use Rattle.sea_base.specs.Field.{big_endian}
 use Rattle.sea_base.specs.Space.{Store, Seen, OnlyRead, Agrees, laid}
 use Rattle.sea_node.specs.Entries.{Entry, size}
@@ -16,6 +16,7 @@ use Rattle.sea_tree.specs.Breaks.{HasNode, IsBroken, Child}
 use Rattle.sea_tree.specs.Cut.{IsCut}
 use Rattle.sea_tree.specs.Does.{Change}
 use Rattle.sea_tree.specs.Place.{Splits}
+use Rattle.sea_tree.specs.Reads.{ReadsNothing, ReadsOnly}
 use Rattle.sea_tree.specs.Mending.{IsPart, IsNearPlace}
 use Rattle.sea_node.specs.declared.node.TheConstants.{ROOM_BYTES}
 use Rattle.sea_tree.specs.declared.place.TheConstants.{LEAST_BYTES}
@@ -28,6 +29,7 @@ pub record Fits (level at : ℕ) (entries : List Entry) (old new : Seen) (change
   pub planned : changes ≡ (at, Some (node_bytes level entries)) ∷ []
   pub next : new.next ≡ old.next
   pub nothing : left ≡ None
+  pub unread : ReadsNothing old new
 
 -- It has too many entries, and the right part goes to a fresh address, of which the parent hears.
 pub record SplitsInTwo (level at : ℕ) (entries : List Entry) (old new : Seen)
@@ -43,6 +45,7 @@ pub record SplitsInTwo (level at : ℕ) (entries : List Entry) (old new : Seen)
       ≡ (old.next, Some (node_bytes level back)) ∷ (at, Some (node_bytes level front)) ∷ []
   pub next : new.next ≡ old.next + 1
   pub parent : left ≡ Some (Pair (first_key back) (Some (big_endian 8 old.next)))
+  pub unread : ReadsNothing old new
 
 -- A step's entry leads to an address, and these entries are near their place there.
 abbrev pub IsNearChild : Step → ℕ → ℕ → List Entry → Type 0
@@ -59,8 +62,8 @@ HasChild store parent index level at entries =
     → IsAddress entry.1 at × HasNode store level at (child_bounds entry after parent.upper) entries
 
 -- It goes together with a neighbour: two adjacent entries of the parent, of which one leads to it
--- and the other to a node that was read. The right neighbour is taken, and the left one by the last
--- child alone.
+-- and the other to a node that was read, and no other. The right neighbour is taken, and the left
+-- one by the last child alone.
 pub record Neighbours (level at : ℕ) (entries : List Entry) (parent : Step)
     (old new : Seen) : Type 0 where
   pub before : List Entry
@@ -77,11 +80,13 @@ pub record Neighbours (level at : ℕ) (entries : List Entry) (parent : Step)
   pub sides : ((parent.index ≡ length before) × (at ≡ one_at) × (entries ≡ one_entries)
       × ((store : Store) → Agrees store new
       → HasNode (laid old store) level two_at
-      (child_bounds two after parent.upper) two_entries))
+      (child_bounds two after parent.upper) two_entries)
+      × ReadsOnly two_at old new)
       ⊎ ((parent.index ≡ length before + 1) × (after ≡ []) × (at ≡ two_at) × (entries ≡ two_entries)
       × ((store : Store) → Agrees store new
       → HasNode (laid old store) level one_at
-      (child_bounds one (two ∷ after) parent.upper) one_entries))
+      (child_bounds one (two ∷ after) parent.upper) one_entries)
+      × ReadsOnly one_at old new)
 
 -- The two have room in one node, at the left one's address.
 pub record Merges (level at : ℕ) (entries : List Entry) (parent : Step) (old new : Seen)

@@ -1,19 +1,19 @@
 //! Putting a pair into a tree, and taking one out.
-ghost use Rattle.std.specs.Prelude.{◌≡◌, ◌≤◌, ◌<◌, ◌+◌, ◌^◌, [], ◌∷◌, Some, None, IfOk, IfErr, OnOk, IsTrue, IfSome, IfNone, length, reverse, ◌⊎◌};
+ghost use Rattle.std.specs.Prelude.{◌≡◌, ◌≤◌, ◌<◌, ◌+◌, ◌^◌, [], ◌∷◌, Some, None, IfOk, IfErr, OnOk, IsTrue, IfSome, MatchOption, length, reverse, ◌⊎◌};
 ghost use Rattle.std.specs.Option.{option_copied};
 ghost use Rattle.std.specs.FinMap as map;
-ghost use Rattle.sea_base.specs.Space.{Store, OnlyRead, laid};
+ghost use Rattle.sea_base.specs.Space.{Store, OnlyRead};
 ghost use Rattle.std.specs.FinMap.Entries.{find};
 ghost use Rattle.sea_node.specs.Entries.{Values, key_order, edited};
 ghost use Rattle.sea_node.specs.Node.{node_bytes};
-ghost use Rattle.sea_tree.specs.Breaks.{FillsFewer};
-ghost use Rattle.sea_tree.specs.Does.{Does, ChangesAtMost, SplicesOnce};
+ghost use Rattle.sea_tree.specs.Does.{Does};
 ghost use Rattle.sea_tree.specs.Plan.{plan_changes, plan_fills, CanSplice};
 ghost use Rattle.sea_tree.specs.Reads.{ReadsNear};
+ghost use Rattle.sea_tree.specs.declared.edit.Edit.TheVariants.{Pair};
 ghost use Rattle.sea_tree.specs.Path.{IsKnownPath};
 ghost use Rattle.sea_tree.specs.Form.{Rises, HasForm, HasFirst};
 ghost use Rattle.sea_tree.specs.Changing.{IsPlanned, TouchesOwn};
-ghost use Rattle.sea_tree.specs.Calls.{Meets, Becomes, ChangesOwn, IsChangeFault, IsPlanFault, IsWholePath, IsOfSpace, IsUnchanged};
+ghost use Rattle.sea_tree.specs.Calls.{Meets, Becomes, ChangeFootprint, ChangeFailure, IsPlanFault, IsUnchanged};
 ghost use Rattle.sea_base.specs.Ghosts.{IsReady, IsCall};
 ghost use Rattle.sea_tree.specs.Calls.{space_fault};
 
@@ -25,7 +25,7 @@ use crate::reading::value_of;
 use crate::rebalancing::rebalance;
 use crate::rooting::rebalance_root;
 use sea_base::{Data, Duplicate, Key, Laddr, NoMemory, Pairs, Space};
-use sea_node::{ENTRY_BYTES, Node, VALUE_BYTES};
+use sea_node::{Node, VALUE_BYTES};
 use std::alloc::Global;
 
 /// Puts a value under a key, and answers the one that was there.
@@ -44,20 +44,13 @@ pub fn put<S: Space>(
         → (found ≡ map.get content key.now)
         × Becomes store root.0 (S.seen space.old) (S.seen space.new)
         (map.insert content key.now value.now)) }
-    ensures whole { OnOk result (IsWholePath root.0 key.now (S.seen space.old) (S.seen space.new)) }
-    ensures fault { IfErr result
-        (IsChangeFault root.0 key.now (S.seen space.old) (S.seen space.new)) }
-    ensures never_full { IfErr result (λ fault. (store : Store) (content : Values)
-        → Meets store root.0 (S.seen space.old) (S.seen space.new) content
-        → FillsFewer (laid (S.seen space.old) store) (2 ^ 25) → IsOfSpace fault) }
-    ensures form { OnOk result (HasForm root.0 key.now (Some value.now) (S.seen space.old)
-        (S.seen space.new)
+    ensures form { OnOk result (
+        HasForm root.0 key.now (Some value.now) (S.seen space.old) (S.seen space.new)
         ⊎ HasFirst root.0 key.now value.now (S.seen space.old) (S.seen space.new)) }
-    ensures own { OnOk result (ChangesOwn root.0 (S.seen space.old) (S.seen space.new)) }
-    ensures near { OnOk result (ReadsNear root.0 key.now (S.seen space.old) (S.seen space.new)) }
-    ensures unchanged { IfErr result (IsUnchanged (S.seen space.old) (S.seen space.new)) }
-    ensures few { OnOk result (ChangesAtMost CHANGED_BLOCKS (S.seen space.old) (S.seen space.new)) }
-    ensures once { OnOk result (SplicesOnce ENTRY_BYTES (S.seen space.old) (S.seen space.new)) }
+    ensures footprint { OnOk result
+        (ChangeFootprint root.0 key.now (S.seen space.old) (S.seen space.new)) }
+    ensures failure { IfErr result
+        (ChangeFailure root.0 key.now (S.seen space.old) (S.seen space.new)) }
     ensures next { ((S.seen space.old).next ≤ (S.seen space.new).next)
         × ((S.seen space.new).next < (S.seen space.old).next + 2 ^ 20) }
     ensures call { IsCall S.Space space.old space.new (space_fault result) }
@@ -89,21 +82,13 @@ pub fn del<S: Space>(
         → (found ≡ map.get content key.now)
         × Becomes store root.0 (S.seen space.old) (S.seen space.new)
         (map.remove content key.now)) }
-    ensures whole { OnOk result (IsWholePath root.0 key.now (S.seen space.old) (S.seen space.new)) }
-    ensures fault { IfErr result
-        (IsChangeFault root.0 key.now (S.seen space.old) (S.seen space.new)) }
-    ensures never_full { IfErr result (λ fault. (store : Store) (content : Values)
-        → Meets store root.0 (S.seen space.old) (S.seen space.new) content
-        → FillsFewer (laid (S.seen space.old) store) (2 ^ 25) → IsOfSpace fault) }
-    ensures absent { IfOk result (λ found.
-        IfNone found (OnlyRead (S.seen space.old) (S.seen space.new))) }
-    ensures form { IfOk result (λ found.
-        IfSome found (λ value. HasForm root.0 key.now None (S.seen space.old) (S.seen space.new))) }
-    ensures own { OnOk result (ChangesOwn root.0 (S.seen space.old) (S.seen space.new)) }
-    ensures near { OnOk result (ReadsNear root.0 key.now (S.seen space.old) (S.seen space.new)) }
-    ensures unchanged { IfErr result (IsUnchanged (S.seen space.old) (S.seen space.new)) }
-    ensures few { OnOk result (ChangesAtMost CHANGED_BLOCKS (S.seen space.old) (S.seen space.new)) }
-    ensures once { OnOk result (SplicesOnce ENTRY_BYTES (S.seen space.old) (S.seen space.new)) }
+    ensures form { IfOk result (λ found. MatchOption found
+        (OnlyRead (S.seen space.old) (S.seen space.new))
+        (λ value. HasForm root.0 key.now None (S.seen space.old) (S.seen space.new))) }
+    ensures footprint { OnOk result
+        (ChangeFootprint root.0 key.now (S.seen space.old) (S.seen space.new)) }
+    ensures failure { IfErr result
+        (ChangeFailure root.0 key.now (S.seen space.old) (S.seen space.new)) }
     ensures next { ((S.seen space.old).next ≤ (S.seen space.new).next)
         × ((S.seen space.new).next < (S.seen space.old).next + 2 ^ 20) }
     ensures call { IsCall S.Space space.old space.new (space_fault result) }
@@ -163,9 +148,9 @@ fn mended<S: Space>(
         IsPlanned root.0 key.now (option_copied value.entry) (S.seen space.old) (S.seen space.new)
         (plan_changes plan)) }
     ensures form { IfOk result (λ plan.
-        Rises (reverse path.steps.items) 0 path.at.0
-        (edited key.now (option_copied value.entry) path.leaf.entries)
-        (S.seen space.old) (S.seen space.new) [] (plan_changes plan)) }
+        Rises (reverse path.steps.items) 0 path.at.0 path.leaf.entries
+        (Pair key.now (option_copied value.entry)) (S.seen space.old) (S.seen space.new) []
+        (plan_changes plan) plan.splice) }
     ensures own { IfOk result (λ plan.
         TouchesOwn root.0 (S.seen space.old) (S.seen space.new) (plan_changes plan)) }
     ensures few { IfOk result (λ plan. plan_fills plan ≤ CHANGED_BLOCKS) }

@@ -3,7 +3,7 @@ ghost use Rattle.std.specs.Prelude.{◌≡◌, ◌+◌, ◌<◌, ◌≤◌, ◌+
 ghost use Rattle.sea_base.specs.Space.{IsKnown, OnlyRead};
 ghost use Rattle.sea_node.specs.Entries.{size};
 ghost use Rattle.sea_node.specs.Node.{IsNode};
-ghost use Rattle.sea_tree.specs.Reads.{ReadsChild};
+ghost use Rattle.sea_tree.specs.Reads.{ReadsOnly};
 ghost use Rattle.sea_tree.specs.Rebalanced.{IsNearChild, HasChild, AreNeighbours, IsRebalanceFault};
 ghost use Rattle.sea_base.specs.Ghosts.{IsReady, IsCall};
 ghost use Rattle.sea_tree.specs.Calls.{space_fault};
@@ -48,8 +48,6 @@ impl Neighbours {
             (S.seen space.old) (S.seen space.new)) }
         ensures fault { IfErr result (IsRebalanceFault node.now.level parent.now (S.seen space.old)
             (S.seen space.new)) }
-        ensures within { OnOk result (ReadsChild parent.now.node.entries (S.seen space.old)
-            (S.seen space.new)) }
         ensures reads { OnlyRead (S.seen space.old) (S.seen space.new) }
         ensures call { IsCall S.Space space.old space.new (space_fault result) }
     {
@@ -92,8 +90,7 @@ fn child_of<S: Space>(
     ensures known { IfOk result (λ found. IsKnown (S.seen space.new) found.0.0) }
     ensures fault { IfErr result (IsRebalanceFault level parent.now (S.seen space.old)
         (S.seen space.new)) }
-    ensures within { OnOk result (ReadsChild parent.now.node.entries (S.seen space.old)
-        (S.seen space.new)) }
+    ensures one { IfOk result (λ found. ReadsOnly found.0.0 (S.seen space.old) (S.seen space.new)) }
     ensures reads { OnlyRead (S.seen space.old) (S.seen space.new) }
     ensures call { IsCall S.Space space.old space.new (space_fault result) }
 {

@@ -7,7 +7,8 @@ ghost use Rattle.sea_tree.specs.Tree.{NodeAt};
 ghost use Rattle.sea_tree.specs.Does.{Does, ChangesAtMost, ArePlaced, SplicesOnce, is_among};
 ghost use Rattle.sea_tree.specs.Reads.{ReadsNothing};
 ghost use Rattle.sea_tree.specs.Mending.{after_edit};
-ghost use Rattle.sea_tree.specs.Plan.{change_of, changes_of, fills, count_filled, plan_changes, plan_fills, CanSplice};
+ghost use Rattle.sea_tree.specs.Plan.{change_of, changes_of, fills, count_filled, plan_changes, plan_fills, IsWritten, CanSplice};
+ghost use Rattle.sea_tree.specs.Form.{IsKept};
 ghost use Rattle.sea_base.specs.Ghosts.{IsReady, IsCall};
 ghost use Rattle.std.specs.Result.{result_err};
 
@@ -117,6 +118,8 @@ pub(crate) fn plan_edit(
     requires first { plan.old.splice ≡ None }
     ensures planned { OnOk result (plan_changes plan.new
         ≡ (at.0, Some (node_bytes node.now.level edited.now.entries)) ∷ plan_changes plan.old) }
+    ensures kept { OnOk result
+        (IsKept at.0 node.now.entries edit (plan_changes plan.old) plan.new.splice) }
     ensures few { OnOk result (plan_fills plan.new ≡ plan_fills plan.old + 1) }
     ensures spliced { OnOk result ((seen : Seen) → IsKnown seen at.0
         → NodeAt seen.view at.0 node.now.level node.now.entries → CanSplice seen plan.new) }
@@ -150,6 +153,7 @@ pub(crate) fn perform<S: Space>(space: &mut S, plan: Plan) -> Result<(), SpaceFa
     requires ready { IsReady S.Space space.old }
     requires spliced { CanSplice (S.seen space.old) plan }
     ensures done { OnOk result (Does (plan_changes plan) (S.seen space.old) (S.seen space.new)) }
+    ensures written { OnOk result (IsWritten plan (S.seen space.old) (S.seen space.new)) }
     ensures few { OnOk result
         (ChangesAtMost (plan_fills plan) (S.seen space.old) (S.seen space.new)) }
     ensures once { OnOk result (SplicesOnce ENTRY_BYTES (S.seen space.old) (S.seen space.new)) }

@@ -55,7 +55,8 @@ pub(crate) fn value_of<'a>(node: &'a Node, key: &Key) -> Option<&'a Data>
     None
 }
 
-/// The first `limit` pairs with keys above a bound, or with none all keys.
+/// The first `limit` pairs with keys above a bound, or with none all keys. A leaf is read only
+/// while pairs are wanting.
 pub fn range<S: Space>(
     alloc: Global,
     space: &mut S,
@@ -73,12 +74,16 @@ pub fn range<S: Space>(
     ensures fault { IfErr result
         (IsRangeFault root.0 (unwrap_or (option_copied after.entry) (0 ∷ []))
         (S.seen space.old) (S.seen space.new)) }
-    ensures within { OnOk result (ReadsRange root.0 (unwrap_or (option_copied after.entry) (0 ∷ []))
+    ensures within { IfOk result (λ found.
+        ReadsRange root.0 (unwrap_or (option_copied after.entry) (0 ∷ [])) limit found
         (S.seen space.old) (S.seen space.new)) }
     ensures reads { OnlyRead (S.seen space.old) (S.seen space.new) }
     ensures call { IsCall S.Space space.old space.new (space_fault result) }
 {
     let mut found = Pairs::new(alloc);
+    if limit == 0 {
+        return Ok(found);
+    }
     let least = Bounds::root(alloc)?;
     let first = after.unwrap_or(&least.lower);
     let Some(mut path) = path_to(alloc, space, root, first)? else {

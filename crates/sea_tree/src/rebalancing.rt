@@ -10,7 +10,8 @@ ghost use Rattle.sea_tree.specs.Calls.{IsUnchanged};
 ghost use Rattle.sea_tree.specs.Does.{Change, Does};
 ghost use Rattle.sea_tree.specs.Plan.{changes_of, count_filled, plan_changes, plan_fills, CanSplice};
 ghost use Rattle.sea_tree.specs.Mending.{after_edit, IsNearPlace};
-ghost use Rattle.sea_tree.specs.Reads.{ReadsChild, ReadsNothing};
+ghost use Rattle.sea_tree.specs.Reads.{ReadsNothing};
+ghost use Rattle.sea_tree.specs.Form.{IsKept, IsWrittenAs};
 ghost use Rattle.sea_tree.specs.Rebalanced.{IsNearChild, SplitsInTwo, Merged, Redistributed, Rebalanced, IsRebalanceFault};
 ghost use Rattle.sea_base.specs.Ghosts.{IsReady, IsCall};
 ghost use Rattle.sea_tree.specs.Calls.{space_fault};
@@ -49,14 +50,15 @@ pub(crate) fn rebalance<S: Space>(
     requires child { IsNearChild parent.now node.now.level at.0 (after_edit edit node.now.entries) }
     ensures rebalanced { IfOk result (λ left. (changes : List Change)
         × (plan_changes plan.new ≡ changes ++ plan_changes plan.old)
-        × Rebalanced node.now.level at.0 (after_edit edit node.now.entries) parent.now
-        (S.seen space.old) (S.seen space.new) changes left) }
+        × (how : Rebalanced node.now.level at.0 (after_edit edit node.now.entries) parent.now
+        (S.seen space.old) (S.seen space.new) changes left)
+        × IsWrittenAs how
+        (IsKept at.0 node.now.entries edit (plan_changes plan.old) plan.new.splice)
+        plan.new.splice) }
     ensures few { OnOk result (plan_fills plan.new ≤ plan_fills plan.old + 2) }
     ensures spliced { OnOk result (CanSplice (S.seen space.new) plan.new) }
     ensures last { IfOk result (λ left. IfSome left (λ edit. plan.new.splice ≡ None)) }
     ensures fault { IfErr result (IsRebalanceFault node.now.level parent.now (S.seen space.old)
-        (S.seen space.new)) }
-    ensures within { OnOk result (ReadsChild parent.now.node.entries (S.seen space.old)
         (S.seen space.new)) }
     ensures reads { OnOk result (Does [] (S.seen space.old) (S.seen space.new)) }
     ensures unchanged { IfErr result (IsUnchanged (S.seen space.old) (S.seen space.new)) }

@@ -1,16 +1,17 @@
 //! Rebalancing the root of a tree whose entries changed: what is to be written of it.
-ghost use Rattle.std.specs.Prelude.{◌≡◌, ◌+◌, ◌<◌, ◌≤◌, ◌++◌, ◌⊎◌, ◌^◌, [], None, List, IfOk, IfErr, OnOk, IsTrue, length};
+ghost use Rattle.std.specs.Prelude.{◌≡◌, ◌+◌, ◌<◌, ◌≤◌, ◌++◌, ◌⊎◌, ◌^◌, ℕ, true, [], ◌∷◌, None, List, IfOk, IfErr, OnOk, IsTrue, length};
 ghost use Rattle.std.specs.Option.{option_copied};
 ghost use Rattle.sea_base.specs.declared.space.SpaceFault.TheVariants.{NoMemory as OutOfMemory};
-ghost use Rattle.sea_base.specs.Space.{Store, Agrees, laid, IsKnown, OnlyRead, ReadsAtMost};
-ghost use Rattle.sea_node.specs.Entries.{size};
-ghost use Rattle.sea_tree.specs.Tree.{root_bounds};
+ghost use Rattle.sea_base.specs.Space.{Store, Seen, IsKnown};
+ghost use Rattle.sea_node.specs.Entries.{Entry, size};
+ghost use Rattle.sea_tree.specs.Tree.{root_bounds, IsAddress};
 ghost use Rattle.sea_tree.specs.Breaks.{HasNode};
-ghost use Rattle.sea_tree.specs.Does.{Change, Does, overlaid};
+ghost use Rattle.sea_tree.specs.Does.{Change, Does, overlaid, is_among};
 ghost use Rattle.sea_tree.specs.Plan.{change_of, changes_of, count_filled, plan_changes, plan_fills, CanSplice};
 ghost use Rattle.sea_tree.specs.Mending.{after_edit, IsNearPlace};
 ghost use Rattle.sea_tree.specs.Calls.{IsRootRebalanceFault, IsUnchanged};
-ghost use Rattle.sea_tree.specs.Reads.{ReadsChild, ReadsNothing, ReadsRootChild};
+ghost use Rattle.sea_tree.specs.Reads.{ReadsNothing};
+ghost use Rattle.sea_tree.specs.Form.{IsKept, IsWrittenAs};
 ghost use Rattle.sea_tree.specs.Changing.{root_entries, RootSplits, RootCollapses, RootRebalanced};
 ghost use Rattle.sea_base.specs.Ghosts.{IsReady, IsCall};
 ghost use Rattle.sea_tree.specs.Calls.{space_fault};
@@ -47,16 +48,21 @@ pub(crate) fn rebalance_root<S: Space>(
     requires near { IsNearPlace node.now.level root_bounds (after_edit edit node.now.entries) }
     requires grown { 1 ≤ node.now.level → size (after_edit edit node.now.entries)
         ≤ size node.now.entries + SEPARATOR_BYTES }
+    requires alone { (only : Entry) (child : ℕ) → 1 ≤ node.now.level
+        → after_edit edit node.now.entries ≡ only ∷ [] → IsAddress only.1 child
+        → is_among (plan_changes plan.old) child ≡ true }
     ensures rebalanced { OnOk result ((changes : List Change)
         × (plan_changes plan.new ≡ changes ++ plan_changes plan.old)
-        × RootRebalanced node.now.level root.0 (after_edit edit node.now.entries) (S.seen space.old)
-        (S.seen space.new) (plan_changes plan.old) changes) }
+        × (how : RootRebalanced node.now.level root.0 (after_edit edit node.now.entries)
+        (S.seen space.old) (S.seen space.new) (plan_changes plan.old) changes)
+        × IsWrittenAs how
+        (IsKept root.0 node.now.entries edit (plan_changes plan.old) plan.new.splice)
+        plan.new.splice) }
     ensures few { OnOk result (plan_fills plan.new ≤ plan_fills plan.old + 3) }
     ensures spliced { OnOk result (CanSplice (S.seen space.new) plan.new) }
     ensures fault { IfErr result
         (IsRootRebalanceFault root.0 (S.seen space.old) (S.seen space.new)) }
-    ensures within { OnOk result (ReadsRootChild node.now.level node.now.entries (S.seen space.old)
-        (S.seen space.new)) }
+    ensures unread { OnOk result (ReadsNothing (S.seen space.old) (S.seen space.new)) }
     ensures reads { OnOk result (Does [] (S.seen space.old) (S.seen space.new)) }
     ensures unchanged { IfErr result (IsUnchanged (S.seen space.old) (S.seen space.new)) }
     ensures rises { (S.seen space.old).next ≤ (S.seen space.new).next }
@@ -78,7 +84,7 @@ pub(crate) fn rebalance_root<S: Space>(
         return Ok(plan_gone(&mut plan.writes, root)?);
     }
     if edited.level > 0 && entries.len() == 1 {
-        return Ok(collapse_root(space, &mut plan.writes, root, &edited)?);
+        return Ok(collapse_root(&mut plan.writes, root, &edited)?);
     }
     Ok(plan_edit(alloc, plan, root, node, edit, &edited)?)
 }
@@ -135,43 +141,32 @@ fn entries_over(alloc: Global, left: Laddr, right: Laddr, back: &Node) -> Result
     Ok(entries)
 }
 
-// Plans to lower the tree: the root takes what is to stand at its one child.
-fn collapse_root<S: Space>(
-    space: &mut S,
-    writes: &mut Writes,
-    root: Laddr,
-    node: &Node,
-) -> Result<(), SpaceFault>
-    requires ready { IsReady S.Space space.old }
+// Plans to lower the tree: the root takes what is planned to stand at its one child.
+fn collapse_root(writes: &mut Writes, root: Laddr, node: &Node) -> Result<(), NoMemory>
     requires near { IsNearPlace node.now.level root_bounds node.now.entries }
     requires above { 1 ≤ node.now.level }
     requires one { length node.now.entries ≡ 1 }
-    ensures collapsed { OnOk result ((changes : List Change)
+    requires alone { (only : Entry) (child : ℕ) → node.now.entries ≡ only ∷ []
+        → IsAddress only.1 child → is_among (changes_of writes.old) child ≡ true }
+    ensures collapsed { OnOk result ((seen : Seen) → (changes : List Change)
         × (changes_of writes.new ≡ changes ++ changes_of writes.old)
-        × RootCollapses node.now.level root.0 node.now.entries (S.seen space.old) (S.seen space.new)
+        × RootCollapses node.now.level root.0 node.now.entries seen seen
         (changes_of writes.old) changes) }
     ensures few { OnOk result (count_filled writes.new ≤ count_filled writes.old + 1) }
-    ensures within { OnOk result
-        (ReadsChild node.now.entries (S.seen space.old) (S.seen space.new)) }
-    ensures reads { OnlyRead (S.seen space.old) (S.seen space.new) }
-    ensures call { IsCall S.Space space.old space.new (result_err result) }
 {
     let child = address_of(&node.entries.items()[0].1);
-    match planned(space, writes, child)? {
+    match planned(writes, child)? {
         Some(block) => writes.push(Write::Whole { at: root, block })?,
         None => plan_gone(writes, root)?,
     }
-    Ok(plan_gone(writes, child)?)
+    plan_gone(writes, child)
 }
 
-// What stands at an address once the plan is carried out.
-fn planned<S: Space>(space: &mut S, writes: &Writes, at: Laddr) -> Result<Option<Block>, SpaceFault>
-    requires { IsReady S.Space space.old }
-    ensures block { IfOk result (λ block. (store : Store) → Agrees store (S.seen space.new)
-        → block ≡ overlaid (changes_of writes.now) (laid (S.seen space.old) store) at.0) }
-    ensures one { ReadsAtMost at.0 (S.seen space.old) (S.seen space.new) }
-    ensures reads { OnlyRead (S.seen space.old) (S.seen space.new) }
-    ensures call { IsCall S.Space space.old space.new (result_err result) }
+// What is planned to stand at an address where something is planned.
+fn planned(writes: &Writes, at: Laddr) -> Result<Option<Block>, NoMemory>
+    requires { is_among (changes_of writes.now) at.0 ≡ true }
+    ensures { IfOk result (λ block. (store : Store)
+        → block ≡ overlaid (changes_of writes.now) store at.0) }
 {
     for write in writes.items().iter().rev() {
         let (written, block) = left_by(write);
@@ -182,7 +177,7 @@ fn planned<S: Space>(space: &mut S, writes: &Writes, at: Laddr) -> Result<Option
             });
         }
     }
-    space.get(at)
+    Ok(None)
 }
 
 // The address of a write, and the block that it leaves there.

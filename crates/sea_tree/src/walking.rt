@@ -6,7 +6,7 @@ ghost use Rattle.sea_base.specs.Space.{Store, OnlyRead, laid, Agrees};
 ghost use Rattle.sea_node.specs.Entries.{Values};
 ghost use Rattle.sea_node.specs.Node.{IsNode};
 ghost use Rattle.sea_tree.specs.Tree.{IsTree, IsNodeOf};
-ghost use Rattle.sea_tree.specs.Calls.{Meets, Becomes, DropsOwn, IsUnchanged, IsWalkFault, IsWalked};
+ghost use Rattle.sea_tree.specs.Calls.{Meets, Becomes, DropFootprint, DropFailure, IsWalkFault, IsWalked};
 ghost use Rattle.sea_tree.specs.Reads.{ReadsListed, ReadsTree};
 ghost use Rattle.sea_tree.specs.Walk.{addresses, Adds, IsUnderFault};
 ghost use Rattle.sea_base.specs.Ghosts.{IsReady, IsCall};
@@ -120,12 +120,8 @@ pub fn drop_all<S: Space>(alloc: Global, space: &mut S, root: Laddr) -> Result<(
         → Becomes store root.0 (S.seen space.old) (S.seen space.new) map.empty
         × ((at : ℕ) → IsNodeOf (laid (S.seen space.old) store) root.0 at
         → laid (S.seen space.new) store at ≡ None)) }
-    ensures fault { IfErr result (IsWalkFault root.0 (S.seen space.old) (S.seen space.new)) }
-    ensures whole { OnOk result ((store : Store) → Agrees store (S.seen space.new)
-        → IsTree (laid (S.seen space.old) store) root.0) }
-    ensures within { OnOk result (ReadsTree root.0 (S.seen space.old) (S.seen space.new)) }
-    ensures own { OnOk result (DropsOwn root.0 (S.seen space.old) (S.seen space.new)) }
-    ensures unchanged { IfErr result (IsUnchanged (S.seen space.old) (S.seen space.new)) }
+    ensures footprint { OnOk result (DropFootprint root.0 (S.seen space.old) (S.seen space.new)) }
+    ensures failure { IfErr result (DropFailure root.0 (S.seen space.old) (S.seen space.new)) }
     ensures next { (S.seen space.new).next ≡ (S.seen space.old).next }
     ensures call { IsCall S.Space space.old space.new (space_fault result) }
 {

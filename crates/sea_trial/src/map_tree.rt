@@ -4,6 +4,7 @@ ghost use Rattle.sea_base.specs.MapSpace.{seen_of};
 
 use crate::fault::TrialFault;
 use sea_base::{Block, Data, Key, Laddr, MapSpace, Nths, Pairs, Space};
+use sea_node::VALUE_BYTES;
 use sea_tree::Checked;
 use std::alloc::Global;
 
@@ -46,7 +47,7 @@ impl MapTree {
 
     /// Puts a value under a key, and answers the one that was there.
     pub fn put(&mut self, key: &Key, value: &Data) -> Result<Option<Data>, TrialFault> {
-        if value.len() > 1024 {
+        if value.len() > VALUE_BYTES {
             return Err(TrialFault::LongValue);
         }
         self.changes = self.changes.checked_add(1).ok_or(TrialFault::TooMany)?;

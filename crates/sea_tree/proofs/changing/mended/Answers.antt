@@ -1,13 +1,13 @@
 use Rattle.sea_base.proofs.Calling.{call_none, call_then}
-use Rattle.std.proofs.Common.{rules, ◌≡◌, ◌+◌, [], ◌∷◌, length, refl, ◌∙◌, ap, arith, length-append}
+use Rattle.std.proofs.Common.{rules, ◌≡◌, ◌+◌, [], ◌∷◌, length, ◌∙◌, ap, arith, length-append}
 use Rattle.std.proofs.lemmas.Result.{err_from_is_err_and}
 use Rattle.std.specs.Option.{option_copied}
 use Rattle.sea_tree.specs.Plan.{plan_changes, plan_fills}
 use Rattle.sea_tree.proofs.Doing.{Does-then}
 use Rattle.sea_tree.proofs.Performing.{unchanged_since, nothing_planned, nothing_filled}
-use Rattle.sea_tree.proofs.Nears.{none_near, climb_near, climb_root_near}
+use Rattle.sea_tree.proofs.Nears.{none_near, nothing_near, climb_near}
 use Rattle.sea_tree.proofs.Forms.{completes_begun, completes_up, completes_here, completes_root}
-use Rattle.sea_node.specs.Entries.{edited}
+use Rattle.sea_tree.specs.declared.edit.Edit.TheVariants.{Pair}
 use Rattle.sea_tree.proofs.Mended.{root_reached, begins, turns, goes_up, ends, ends_own, comes_to_root, roots, roots_own, rebalance_fault, root_fault, nothing_left}
 use Rattle.sea_tree.proofs.changing.mended.Goals as goal
 use Rattle.sea_tree.proofs.changing.mended.Goals.{in-Some+in_ok-copy-in-Some, in-None}
@@ -21,7 +21,7 @@ up-init g c =
     let nothing : plan_fills c.new-plan.result ≡ 0 = nothing_filled c.new-plan.result c.new-plan.ensures.writes c.new-plan.ensures.splice in
     record {
       climbs = rw (key, value, none) begun.0;
-      form = rw (key, value, none) (completes_begun c.args.path.steps.items c.args.path.leaf.level c.args.path.at.0 (edited c.args.key.now (option_copied c.args.value) c.args.path.leaf.entries) (g.S.Space.seen c.args.space.now) c.requires.path.leaf_level);
+      form = rw (key, value, none) (completes_begun c.args.path.steps.items c.args.path.leaf.level c.args.path.at.0 c.args.path.leaf.entries (Pair c.args.key.now (option_copied c.args.value)) (g.S.Space.seen c.args.space.now) c.requires.path.leaf_level);
       near = none_near c.args.root.0 c.args.key.now (g.S.Space.seen c.args.space.now);
       few = omega (arith, begun.1, nothing);
       first = c.new-plan.ensures.splice;
@@ -55,8 +55,8 @@ up-preserved g c =
     let steps : length c.up.steps.items ≡ length c.pop.new.self.items + 1 = ap length c.in-Some-pop.ensures.items ∙ length-append c.pop.new.self.items (c.in-Some-pop.parent ∷ []) in
     record {
       climbs = goes_up _ _ _ _ _ _ _ _ _ _ _ _ _ _ _ _ _ (g.met.S.Space.sound c.args.space.now) (omega (arith, was.next, c.requires.room)) c.in-Some-pop.ensures.items was.climbs rebalanced.1 rebalanced.2 goes;
-      form = completes_up _ _ _ _ _ _ _ _ _ _ _ _ c.in-Some-pop.ensures.items rebalanced.1 was.form _ rebalanced.2;
-      near = climb_near (g.S.Space.seen c.args.space.now) (g.S.Space.seen c.up.space) (g.S.Space.seen c.rebalance.new.space) c.args.root.0 c.args.key.now (option_copied c.args.value) (g.met.S.Space.sound c.args.space.now) _ _ _ _ _ _ _ _ c.in-Some-pop.ensures.items was.climbs c.in_ok-left.ensures.reads was.near c.in_ok-left.ensures.within;
+      form = completes_up _ _ _ _ _ _ _ _ _ _ _ _ _ c.in-Some-pop.ensures.items rebalanced.1 was.form _ rebalanced.2;
+      near = climb_near (g.S.Space.seen c.args.space.now) (g.S.Space.seen c.up.space) (g.S.Space.seen c.rebalance.new.space) c.args.root.0 c.args.key.now (option_copied c.args.value) (g.met.S.Space.sound c.args.space.now) _ _ _ _ _ _ _ _ _ _ c.in-Some-pop.ensures.items was.climbs c.in_ok-left.ensures.reads was.near rebalanced.2;
       few = omega (arith, was.few, c.in_ok-left.ensures.few, steps);
       first = rw c.in-Some-2.is at c.in_ok-left.ensures.last;
       next = omega (arith, was.next, c.in_ok-left.ensures.next, steps);
@@ -71,8 +71,8 @@ up-preserved-in-Some-2 g c =
     let steps : length c.up.steps.items ≡ length c.pop.new.self.items + 1 = ap length c.in-Some-pop.ensures.items ∙ length-append c.pop.new.self.items (c.in-Some-pop.parent ∷ []) in
     record {
       climbs = goes_up _ _ _ _ _ _ _ _ _ _ _ _ _ _ _ _ _ (g.met.S.Space.sound c.args.space.now) (omega (arith, was.next, c.requires.room)) c.in-Some-pop.ensures.items was.climbs rebalanced.1 rebalanced.2 goes;
-      form = completes_up _ _ _ _ _ _ _ _ _ _ _ _ c.in-Some-pop.ensures.items rebalanced.1 was.form _ rebalanced.2;
-      near = climb_near (g.S.Space.seen c.args.space.now) (g.S.Space.seen c.up.space) (g.S.Space.seen c.rebalance.new.space) c.args.root.0 c.args.key.now (option_copied c.args.value) (g.met.S.Space.sound c.args.space.now) _ _ _ _ _ _ _ _ c.in-Some-pop.ensures.items was.climbs c.in_ok-left.ensures.reads was.near c.in_ok-left.ensures.within;
+      form = completes_up _ _ _ _ _ _ _ _ _ _ _ _ _ c.in-Some-pop.ensures.items rebalanced.1 was.form _ rebalanced.2;
+      near = climb_near (g.S.Space.seen c.args.space.now) (g.S.Space.seen c.up.space) (g.S.Space.seen c.rebalance.new.space) c.args.root.0 c.args.key.now (option_copied c.args.value) (g.met.S.Space.sound c.args.space.now) _ _ _ _ _ _ _ _ _ _ c.in-Some-pop.ensures.items was.climbs c.in_ok-left.ensures.reads was.near rebalanced.2;
       few = omega (arith, was.few, c.in_ok-left.ensures.few, steps);
       first = rw c.in-Some-2.is at c.in_ok-left.ensures.last;
       next = omega (arith, was.next, c.in_ok-left.ensures.next, steps);
@@ -87,8 +87,8 @@ up-preserved-in-Some-2-2 g c =
     let steps : length c.up.steps.items ≡ length c.pop.new.self.items + 1 = ap length c.in-Some-pop.ensures.items ∙ length-append c.pop.new.self.items (c.in-Some-pop.parent ∷ []) in
     record {
       climbs = goes_up _ _ _ _ _ _ _ _ _ _ _ _ _ _ _ _ _ (g.met.S.Space.sound c.args.space.now) (omega (arith, was.next, c.requires.room)) c.in-Some-pop.ensures.items was.climbs rebalanced.1 rebalanced.2 goes;
-      form = completes_up _ _ _ _ _ _ _ _ _ _ _ _ c.in-Some-pop.ensures.items rebalanced.1 was.form _ rebalanced.2;
-      near = climb_near (g.S.Space.seen c.args.space.now) (g.S.Space.seen c.up.space) (g.S.Space.seen c.rebalance.new.space) c.args.root.0 c.args.key.now (option_copied c.args.value) (g.met.S.Space.sound c.args.space.now) _ _ _ _ _ _ _ _ c.in-Some-pop.ensures.items was.climbs c.in_ok-left.ensures.reads was.near c.in_ok-left.ensures.within;
+      form = completes_up _ _ _ _ _ _ _ _ _ _ _ _ _ c.in-Some-pop.ensures.items rebalanced.1 was.form _ rebalanced.2;
+      near = climb_near (g.S.Space.seen c.args.space.now) (g.S.Space.seen c.up.space) (g.S.Space.seen c.rebalance.new.space) c.args.root.0 c.args.key.now (option_copied c.args.value) (g.met.S.Space.sound c.args.space.now) _ _ _ _ _ _ _ _ _ _ c.in-Some-pop.ensures.items was.climbs c.in_ok-left.ensures.reads was.near rebalanced.2;
       few = omega (arith, was.few, c.in_ok-left.ensures.few, steps);
       first = rw c.in-Some-2.is at c.in_ok-left.ensures.last;
       next = omega (arith, was.next, c.in_ok-left.ensures.next, steps);
@@ -107,7 +107,7 @@ returns-in_default-2-clause-reads g c = Does-then [] [] c.up.invariant.climbs.re
 pub returns-in_default-2-clause-form : goal.returns-in_default-2-clause-form
 returns-in_default-2-clause-form g c =
     let rebalanced = rw c.in_default-2.is at c.in_ok-left.ensures.rebalanced in
-    completes_here _ _ _ _ _ _ _ _ _ _ _ _ c.in-Some-pop.ensures.items rebalanced.1 c.up.invariant.form rebalanced.2
+    completes_here _ _ _ _ _ _ _ _ _ _ _ _ _ c.in-Some-pop.ensures.items rebalanced.1 c.up.invariant.form _ rebalanced.2 rebalanced.3
 
 pub returns-in_default-2-clause-own : goal.returns-in_default-2-clause-own
 returns-in_default-2-clause-own g c =
@@ -157,7 +157,7 @@ returns-clause-form g c =
     let was = c.up.invariant in
     let rebalanced = c.in_ok-rebalance_root.ensures.rebalanced in
     let none = nothing_left c.up.steps.items c.in_default.ensures.variant.1 in
-    completes_root _ _ _ _ _ _ _ _ _ _ _ none (root_reached _ _ _ _ _ _ _ _ _ _ _ none was.climbs) rebalanced.1 was.form rebalanced.2
+    completes_root _ _ _ _ _ _ _ _ _ _ _ _ _ none (root_reached _ _ _ _ _ _ _ _ _ _ _ none was.climbs) rebalanced.1 was.form c.in_ok-rebalance_root.ensures.unread rebalanced.2 rebalanced.3
 
 pub returns-clause-own : goal.returns-clause-own
 returns-clause-own g c =
@@ -171,12 +171,15 @@ returns-clause-reads g c = Does-then [] [] c.up.invariant.climbs.reads c.in_ok-r
 pub returns-in_default-2-clause-near : goal.returns-in_default-2-clause-near
 returns-in_default-2-clause-near g c =
     let was = c.up.invariant in
-    climb_near (g.S.Space.seen c.args.space.now) (g.S.Space.seen c.up.space) (g.S.Space.seen c.rebalance.new.space) c.args.root.0 c.args.key.now (option_copied c.args.value) (g.met.S.Space.sound c.args.space.now) _ _ _ _ _ _ _ _ c.in-Some-pop.ensures.items was.climbs c.in_ok-left.ensures.reads was.near c.in_ok-left.ensures.within
+    let rebalanced = rw c.in_default-2.is at c.in_ok-left.ensures.rebalanced in
+    climb_near (g.S.Space.seen c.args.space.now) (g.S.Space.seen c.up.space) (g.S.Space.seen c.rebalance.new.space) c.args.root.0 c.args.key.now (option_copied c.args.value) (g.met.S.Space.sound c.args.space.now) _ _ _ _ _ _ _ _ _ _ c.in-Some-pop.ensures.items was.climbs c.in_ok-left.ensures.reads was.near rebalanced.2
 
 pub returns-clause-near : goal.returns-clause-near
 returns-clause-near g c =
-    let was = c.up.invariant in
-    climb_root_near (g.S.Space.seen c.args.space.now) (g.S.Space.seen c.up.space) (g.S.Space.seen c.rebalance_root.new.space) c.args.root.0 c.args.key.now (option_copied c.args.value) (g.met.S.Space.sound c.args.space.now) _ _ _ _ _ _ (nothing_left c.up.steps.items c.in_default.ensures.variant.1) was.climbs c.in_ok-rebalance_root.ensures.reads was.near c.in_ok-rebalance_root.ensures.within
+    nothing_near c.args.root.0 c.args.key.now (g.S.Space.seen c.args.space.now) (g.S.Space.seen c.up.space) (g.S.Space.seen c.rebalance_root.new.space) c.in_ok-rebalance_root.ensures.reads c.up.invariant.near c.in_ok-rebalance_root.ensures.unread
+
+pub rebalance_root-requires-clause-alone : goal.rebalance_root-requires-clause-alone
+rebalance_root-requires-clause-alone g c = (comes_to_root _ _ _ _ _ _ _ _ _ _ _ (nothing_left c.up.steps.items c.in_default.ensures.variant.1) c.up.invariant.climbs).alone
 
 pub returns-in_err-left-clause-call : goal.returns-in_err-left-clause-call
 returns-in_err-left-clause-call g c =

@@ -1,5 +1,5 @@
 use Rattle.sea_base.proofs.Calling.{call_then}
-use Rattle.std.proofs.Common.{[], refl, ◌∙◌, arith}
+use Rattle.std.proofs.Common.{[], refl, arith}
 use Rattle.std.proofs.lemmas.Result.{err_from_is_err_and}
 use Rattle.sea_base.proofs.Spaces.{only_read-trans, known_later}
 use Rattle.sea_tree.specs.Tree.{root_bounds}

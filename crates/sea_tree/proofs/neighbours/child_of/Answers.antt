@@ -3,7 +3,7 @@ use Rattle.std.proofs.lemmas.Result.{err_from_is_err_and}
 use Rattle.sea_tree.specs.Tree.{child_bounds}
 use Rattle.sea_tree.specs.Place.{meant}
 use Rattle.sea_tree.proofs.Rebalances.{rebalance_fault}
-use Rattle.sea_tree.proofs.Nears.{child_read, child_at_index}
+use Rattle.sea_tree.proofs.Nears.{only_one}
 use Rattle.sea_tree.proofs.neighbours.child_of.Goals as goal
 
 pub returns-in_err-node-clause-fault : goal.returns-in_err-node-clause-fault
@@ -14,7 +14,5 @@ returns-in_err-node-clause-fault g c =
     (λ before after entry splits. c.in_ok-bounds.ensures before after entry splits ∙ ap (child_bounds entry after) c.as_ref.ensures.value)
     c.node_at.ensures.reads (g.met.S.Space.sound c.node_at.new.space) c.in_err-node.ensures.fault)
 
-pub returns-clause-within : goal.returns-clause-within
-returns-clause-within g c =
-    child_read c.args.parent.now.node.entries c.child_at-at.result.0 (g.S.Space.seen c.args.space.now) (g.S.Space.seen c.node_at.new.space)
-    (child_at_index c.args.parent.now.node.entries c.args.index c.child_at-at.result.0 c.requires.index c.child_at-at.ensures) c.node_at.ensures.one
+pub returns-clause-one : goal.returns-clause-one
+returns-clause-one g c = only_one c.node_at.ensures.one

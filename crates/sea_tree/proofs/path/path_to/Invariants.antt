@@ -1,5 +1,5 @@
 use Rattle.sea_base.specs.Ghosts.{IsCall}
-use Rattle.std.proofs.Common.{None, ◌≡◌, ◌≤◌, IsTrue}
+use Rattle.std.proofs.Common.{None}
 use Rattle.sea_base.specs.Space.{IsKnown, OnlyRead}
 use Rattle.sea_tree.specs.Place.{meant}
 use Rattle.sea_tree.specs.Reads.{ReadsPath}

@@ -1,4 +1,4 @@
-use Rattle.std.proofs.Common.{◌≡◌, ◌+◌, ◌==◌, List, true, false, ap, sym, subst, ◌∙◌, refl, arith, add-one}
+use Rattle.std.proofs.Common.{◌≡◌, ◌==◌, List, true, false, ap, sym, subst, ◌∙◌, refl, arith, add-one}
 use Rattle.std.proofs.lemmas.Bool.{eqb-true, eqb-false, eq-eqb, ne_eqb}
 use Rattle.sea_tree.specs.declared.plan.Write.{Write}
 use Rattle.sea_tree.specs.Plan.{change_of, changes_of}

@@ -1,10 +1,10 @@
 use Rattle.sea_base.proofs.Calling.{call_then}
-use Rattle.std.proofs.Common.{◌∙◌, ◌+◌, Option, Some, OnOk, sym, subst}
+use Rattle.std.proofs.Common.{◌∙◌, ◌+◌, Option, OnOk, sym, subst}
 use Rattle.std.proofs.lemmas.Result.{on_ok_weaker}
 use Rattle.sea_tree.specs.declared.splice.Splice.{Splice}
 use Rattle.sea_tree.specs.Does.{Does, ChangesAtMost}
 use Rattle.sea_tree.specs.Plan.{changes_of, count_filled, spliced_before, one_filled}
-use Rattle.sea_tree.proofs.Performing.{still_makes, splice_last, splice_few, once_some, once_none}
+use Rattle.sea_tree.proofs.Performing.{still_makes, splice_last, splice_few, once_some, once_none, written_some, written_none}
 use Rattle.sea_tree.proofs.plan.perform.Goals as goal
 
 pub amend-requires-clause-splice : goal.amend-requires-clause-splice
@@ -32,3 +32,10 @@ returns-in-Some-clause-unread g c = on_ok_weaker c.amend.result (λ a q. a.write
 
 pub returns-in-Some-clause-call : goal.returns-in-Some-clause-call
 returns-in-Some-clause-call g c = call_then g.S.Space g.met.S.Space.frame c.in_ok-write_all.ensures.call c.amend.ensures.call
+
+pub returns-in-Some-clause-written : goal.returns-in-Some-clause-written
+returns-in-Some-clause-written g c =
+    on_ok_weaker c.amend.result (λ a. written_some c.args.plan c.in-Some.field-0 c.in-Some.is (rw c.in-Some.is at c.requires.spliced) c.in_ok-write_all.ensures.done c.in_ok-write_all.ensures.placed a) c.amend.ensures.amended
+
+pub returns-in-None-clause-written : goal.returns-in-None-clause-written
+returns-in-None-clause-written g c = written_none c.args.plan c.in-None.is c.in_ok-write_all.ensures.placed

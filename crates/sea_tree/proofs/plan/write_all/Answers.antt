@@ -1,6 +1,6 @@
 use Rattle.std.proofs.lemmas.Result.{err_from_is_err_and}
 use Rattle.sea_base.proofs.Calling.{call_none, call_then}
-use Rattle.std.proofs.Common.{◌∙◌, refl, arith}
+use Rattle.std.proofs.Common.{◌∙◌, refl}
 use Rattle.sea_base.proofs.Spaces.{only_read-refl}
 use Rattle.sea_tree.proofs.Doing.{Does-read, ChangesAtMost-read}
 use Rattle.sea_tree.proofs.Performing.{does_more, few_more, placed_none, placed_more}

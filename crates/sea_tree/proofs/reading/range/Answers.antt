@@ -1,18 +1,18 @@
-use Rattle.sea_base.proofs.Calling.{call_then, call_spent}
-use Rattle.std.proofs.Common.{None, inl, inr, refl, ◌≡◌, ◌<◌, ◌≤◌, ◌++◌, ◌∷◌, [], List, ℕ, Option, length, take, sym, ap, subst, ◌∙◌, arith, length-take}
+use Rattle.sea_base.proofs.Calling.{call_none, call_then, call_spent}
+use Rattle.std.proofs.Common.{None, Some, inl, inr, refl, ◌≡◌, ◌<◌, ◌≤◌, ◌++◌, ◌∷◌, [], List, ℕ, Option, length, take, sym, ap, subst, ◌∙◌, arith, length-take}
 use Rattle.std.specs.Option.{option_copied, unwrap_or}
 use Rattle.std.proofs.lemmas.Result.{err_from_is_err_and}
-use Rattle.sea_base.proofs.Spaces.{only_read-trans, agrees_before}
+use Rattle.sea_base.proofs.Spaces.{only_read-refl, only_read-trans, agrees_before}
 use Rattle.sea_node.specs.Entries.{Entry}
 use Rattle.std.specs.List.{All}
 use Rattle.std.proofs.lemmas.List.Elements.{All-nil}
 use Rattle.sea_tree.specs.Reads.{ReadsPath}
-use Rattle.sea_tree.specs.Calls.{IsPathFault}
+use Rattle.sea_tree.specs.Calls.{IsPathFault, pairs_above}
 use Rattle.sea_tree.specs.Tree.{Bounds, IsWithin}
 use Rattle.sea_tree.specs.Path.{IsKnownPath}
 use Rattle.sea_tree.specs.Range.{entries_above, pairs_upto}
 use Rattle.sea_tree.proofs.PathSteps.{empty_path}
-use Rattle.sea_tree.proofs.WholePaths.{whole_first, whole_next, first_breaks, next_breaks, begun_first, begun_next, range_first, range_next, taken_within, within_next}
+use Rattle.sea_tree.proofs.WholePaths.{whole_first, whole_next, first_breaks, next_breaks, begun_first, begun_next, never, upto_range, range_none, range_first, range_next, range_last, none_wanted, taken_within, within_next}
 use Rattle.sea_tree.proofs.Ranges.{take_all, all_taken, enough_upto, upto_all}
 use Rattle.sea_tree.proofs.Taking.{first_is, first_taken, next_taken, none_taken, begins_first, begins_next, adds_some, grows, taken_on}
 use Rattle.sea_tree.proofs.reading.range.Goals as goal
@@ -53,8 +53,9 @@ leaves-init g c =
       begun = begun_first seen c.args.root.0 (unwrap_or after (0 ∷ [])) path known;
       within = subst (All (λ e. IsWithin e.0 c.in-Some.path.bounds.upper)) (sym found)
           (taken_within seen c.args.root.0 (unwrap_or after (0 ∷ [])) path c.args.limit after c.new-found.result known (subst (All (λ e. IsWithin e.0 c.in-Some.path.bounds.upper)) (sym c.new-found.ensures) (All-nil (λ (e : Entry). IsWithin e.0 c.in-Some.path.bounds.upper))));
-      range = range_first c.args.root.0 (unwrap_or (option_copied c.args.after) (0 ∷ [])) (g.S.Space.seen c.args.space.now) (g.S.Space.seen c.path_to.new.space)
-          (subst (λ (key : List ℕ). ReadsPath c.args.root.0 key (g.S.Space.seen c.args.space.now) (g.S.Space.seen c.path_to.new.space)) (first_is c.args.after _ c.unwrap_or-first.result (0 ∷ []) c.unwrap_or-first.ensures (ap (λ (b : Bounds). b.lower) c.in_ok-least.ensures)) c.in_ok-path.ensures.within);
+      range = range_first c.args.root.0 after c.args.limit c.take_above.new.found (g.S.Space.seen c.args.space.now) (g.S.Space.seen c.path_to.new.space) path (omega (arith, c.if-limit-eq0.false)) known
+          (found ∙ ap (λ (es : List Entry). take c.args.limit (es ++ entries_above (option_copied c.args.after) c.in-Some.path.leaf.entries)) c.new-found.ensures)
+          (subst (λ (key : List ℕ). ReadsPath c.args.root.0 key (g.S.Space.seen c.args.space.now) (g.S.Space.seen c.path_to.new.space)) first c.in_ok-path.ensures.within);
       count = omega (arith, ap length found, length-take c.args.limit (c.new-found.result ++ own));
       taken = λ store content agrees holds.
           found ∙ ap (λ (es : List Entry). take c.args.limit (es ++ entries_above (option_copied c.args.after) c.in-Some.path.leaf.entries)) c.new-found.ensures
@@ -125,7 +126,7 @@ leaves-preserved g c =
       begun = begun_next seen c.args.root.0 (unwrap_or after (0 ∷ [])) c.leaves.path next is before.begun;
       within = subst (All (λ e. IsWithin e.0 c.in-Some-2.next.bounds.upper)) (sym found)
           (taken_within seen c.args.root.0 is.key next c.args.limit after c.leaves.found is.known (within_next seen c.args.root.0 c.leaves.path next c.leaves.found is before.within));
-      range = range_next c.args.root.0 (unwrap_or (option_copied c.args.after) (0 ∷ [])) (g.S.Space.seen c.args.space.now) (g.S.Space.seen c.leaves.space) (g.S.Space.seen c.path_after.new.space) c.leaves.path.bounds.upper before.reads c.path_after.ensures.reads before.begun before.range c.path_after.ensures.within;
+      range = range_next c.args.root.0 (unwrap_or after (0 ∷ [])) after c.args.limit c.leaves.found c.take_above-in-leaves.new.found (g.S.Space.seen c.args.space.now) (g.S.Space.seen c.leaves.space) seen c.leaves.path next before.reads c.path_after.ensures.reads is before.begun before.within few found before.range c.path_after.ensures.within;
       count = omega (arith, ap length found, length-take c.args.limit (c.leaves.found ++ entries_above (option_copied c.args.after) c.in-Some-2.next.leaf.entries));
       taken = λ store content agrees holds.
           let so_far = before.taken store content (agrees_before c.path_after.ensures.reads agrees) holds in
@@ -150,13 +151,42 @@ returns-clause-pairs g c store content meets =
     enough_upto c.args.limit c.leaves.path.bounds.upper after content c.leaves.found (c.leaves.invariant.taken store content meets.agrees meets.content) long
 
 pub returns-in_default-clause-within : goal.returns-in_default-clause-within
-returns-in_default-clause-within g c = range_first c.args.root.0 (unwrap_or (option_copied c.args.after) (0 ∷ [])) (g.S.Space.seen c.args.space.now) (g.S.Space.seen c.path_to.new.space)
-    (subst (λ (key : List ℕ). ReadsPath c.args.root.0 key (g.S.Space.seen c.args.space.now) (g.S.Space.seen c.path_to.new.space)) (first_is c.args.after _ c.unwrap_or-first.result (0 ∷ []) c.unwrap_or-first.ensures (ap (λ (b : Bounds). b.lower) c.in_ok-least.ensures)) c.in_ok-path.ensures.within)
+returns-in_default-clause-within g c =
+    let first = first_is c.args.after _ c.unwrap_or-first.result (0 ∷ []) c.unwrap_or-first.ensures (ap (λ (b : Bounds). b.lower) c.in_ok-least.ensures) in
+    range_none c.args.root.0 (unwrap_or (option_copied c.args.after) (0 ∷ [])) c.args.limit c.new-found.result (g.S.Space.seen c.args.space.now) (g.S.Space.seen c.path_to.new.space) (omega (arith, c.if-limit-eq0.false)) c.new-found.ensures
+    (subst (λ (key : List ℕ). ReadsPath c.args.root.0 key (g.S.Space.seen c.args.space.now) (g.S.Space.seen c.path_to.new.space)) first c.in_ok-path.ensures.within)
 
 pub returns-in_default-2-clause-within : goal.returns-in_default-2-clause-within
 returns-in_default-2-clause-within g c =
     let before = c.leaves.invariant in
-    range_next c.args.root.0 (unwrap_or (option_copied c.args.after) (0 ∷ [])) (g.S.Space.seen c.args.space.now) (g.S.Space.seen c.leaves.space) (g.S.Space.seen c.path_after.new.space) c.leaves.path.bounds.upper before.reads c.path_after.ensures.reads before.begun before.range c.path_after.ensures.within
+    range_last c.args.root.0 (unwrap_or (option_copied c.args.after) (0 ∷ [])) c.args.limit c.leaves.found (g.S.Space.seen c.args.space.now) (g.S.Space.seen c.leaves.space) (g.S.Space.seen c.path_after.new.space) c.leaves.path.bounds.upper c.path_after.ensures.reads (rw c.in_default-2.is at c.in_ok-next.ensures.none) before.range c.path_after.ensures.within
+
+pub returns-clause-within : goal.returns-clause-within
+returns-clause-within g c = upto_range c.args.root.0 (unwrap_or (option_copied c.args.after) (0 ∷ [])) c.args.limit c.leaves.found c.leaves.path.bounds.upper (g.S.Space.seen c.args.space.now) (g.S.Space.seen c.leaves.space) c.leaves.invariant.range
+
+-- where no pair is wanted
+
+pub returns-then-limit-eq0-clause-pairs : goal.returns-then-limit-eq0-clause-pairs
+returns-then-limit-eq0-clause-pairs g c store content meets =
+    c.new-found.ensures ∙ sym (none_wanted c.args.limit (pairs_above (option_copied c.args.after) content) (omega (arith, c.if-limit-eq0.true)))
+
+pub returns-then-limit-eq0-clause-whole : goal.returns-then-limit-eq0-clause-whole
+returns-then-limit-eq0-clause-whole g c =
+    let from : List ℕ = unwrap_or (option_copied c.args.after) (0 ∷ []) in record {
+      upto = Some from;
+      whole = λ key above within. absurd (never from key above within);
+      below = subst (All (λ e. IsWithin e.0 (Some from))) (sym c.new-found.ensures) (All-nil (λ (e : Entry). IsWithin e.0 (Some from)));
+      ends = inr (ap length c.new-found.ensures ∙ sym c.if-limit-eq0.true);
+    }
+
+pub returns-then-limit-eq0-clause-within : goal.returns-then-limit-eq0-clause-within
+returns-then-limit-eq0-clause-within g c q = inl refl
+
+pub returns-then-limit-eq0-clause-reads : goal.returns-then-limit-eq0-clause-reads
+returns-then-limit-eq0-clause-reads g c = only_read-refl (g.S.Space.seen c.args.space.now)
+
+pub returns-then-limit-eq0-clause-call : goal.returns-then-limit-eq0-clause-call
+returns-then-limit-eq0-clause-call g c = call_none g.S.Space g.met.S.Space.frame c.args.space.now c.requires
 
 pub returns-in_err-next-clause-call : goal.returns-in_err-next-clause-call
 returns-in_err-next-clause-call g c =

@@ -11,4 +11,4 @@ returns-clause-split g c =
     c.in_ok-front.front c.in_ok-front.back c.in_ok-fresh.fresh.0 c.in_ok-copy.field-0 c.in_ok-value_of.field-0 e
     c.requires.large c.in_ok-front.ensures c.in_ok-fresh.ensures.first c.in_ok-fresh.ensures.given.next c.in_ok-plan_node.ensures.planned c.in_ok-plan_node-2.ensures.planned
     (c.index-items-0.is ∙ ap (λ (es : List Entry). get_or es 0 e) c.items.ensures)
-    (c.in_ok-copy.ensures ∙ ap (λ (x : Entry). x.0) (sym c.index-items-0.is)) c.in_ok-value_of.ensures
+    (c.in_ok-copy.ensures ∙ ap (λ (x : Entry). x.0) (sym c.index-items-0.is)) c.in_ok-value_of.ensures c.in_ok-fresh.ensures.given.reads

@@ -1,25 +1,24 @@
 use Rattle.std.proofs.Common.{◌≡◌, suc, length, reverse, Some, None, true, false, ◌==◌, sym, ap, subst, ◌∙◌, refl, arith, add-one}
 use Rattle.std.specs.Option.{option_copied}
-use Rattle.std.proofs.lemmas.Bool.{eqb-true, eqb-false, eq-eqb, ne_eqb}
+use Rattle.std.proofs.lemmas.Bool.{true≢false, eqb-true, eqb-false, eq-eqb, ne_eqb}
 use Rattle.std.proofs.lemmas.List.{length_push}
 use Rattle.std.proofs.lemmas.Iterator.Adapters.{YieldsList-from_rev_slice}
 use Rattle.std.proofs.lemmas.Iterator.Consumers.{YieldsList-turn, YieldsList-end}
-use Rattle.sea_base.specs.Space.{laid}
 use Rattle.sea_tree.specs.Does.{Change}
 use Rattle.sea_tree.specs.Plan.{change_of}
-use Rattle.sea_tree.proofs.RootRebalances.{Passes, passes_more, planned_last, planned_none, laid_read, if_ok_both}
+use Rattle.sea_tree.proofs.RootRebalances.{Passes, passes_more, planned_last, planned_absent}
 use Rattle.sea_tree.proofs.rooting.planned.Goals as goal
 use Rattle.sea_tree.proofs.rooting.planned.Goals.{in-Some-block+in_ok-share-in-Some-block, in-None-block}
 
 pub loop-write-init : goal.loop-write-init
-loop-write-init g c = refl
+loop-write-init c = refl
 
-pub returns-then-eq-clause-block : goal.returns-then-eq-clause-block
-returns-then-eq-clause-block g c = λ store agrees.
+pub returns-then-eq : goal.returns-then-eq
+returns-then-eq c = λ store.
     let t = YieldsList-turn (YieldsList-from_rev_slice c.args.writes.now cc) c.loop-write.yielded _ c.loop-write.yielded_by _ _ c.in-Some.write c.in-Some.is c.next.ensures.steps in
     let told : (c.left_by.result.0.0 == c.args.at.0) ≡ true = cc in
     let here : (c.args.at.0 == (change_of c.in-Some.write.now).0) ≡ true = eq-eqb _ _ (sym (eqb-true _ _ told) ∙ ap (λ (change : Change). change.0) c.left_by.ensures) in
-    let stands = planned_last c.args.at.0 (laid (g.S.Space.seen c.args.space.now) store) c.args.writes.now (length c.loop-write.yielded) c.in-Some.write.now t.0 t.1 here c.loop-write.invariant in
+    let stands = planned_last c.args.at.0 store c.args.writes.now (length c.loop-write.yielded) c.in-Some.write.now t.0 t.1 here c.loop-write.invariant in
     let block : option_copied c.left_by.result.1 ≡ (change_of c.in-Some.write.now).1 = ap (λ (change : Change). change.1) c.left_by.ensures in
     elim c.match-block.branch [
       | in-Some-block+in_ok-share-in-Some-block w ↦
@@ -31,7 +30,7 @@ returns-then-eq-clause-block g c = λ store agrees.
     ]
 
 pub loop-write-preserved : goal.loop-write-preserved
-loop-write-preserved g c =
+loop-write-preserved c =
     let t = YieldsList-turn (YieldsList-from_rev_slice c.args.writes.now cc) c.loop-write.yielded _ c.loop-write.yielded_by _ _ c.in-Some.write c.in-Some.is c.next.ensures.steps in
     let told : (c.left_by.result.0.0 == c.args.at.0) ≡ false = cc in
     let same : c.left_by.result.0.0 ≡ (change_of c.in-Some.write.now).0 = ap (λ (change : Change). change.0) c.left_by.ensures in
@@ -39,10 +38,8 @@ loop-write-preserved g c =
     let more : Passes c.args.at.0 (reverse c.args.writes.now) (suc (length c.loop-write.yielded)) = passes_more c.args.at.0 (reverse c.args.writes.now) (length c.loop-write.yielded) c.in-Some.write.now t.0 t.1 apart c.loop-write.invariant in
     subst (Passes c.args.at.0 (reverse c.args.writes.now)) (sym (length_push c.loop-write.yielded c.in-Some.write ∙ add-one (length c.loop-write.yielded))) more
 
-pub returns-clause-block : goal.returns-clause-block
-returns-clause-block g c =
+pub returns : goal.returns
+returns c = λ store.
     let t = YieldsList-end (YieldsList-from_rev_slice c.args.writes.now cc) c.loop-write.yielded _ c.loop-write.yielded_by _ _ c.in-None.is c.next.ensures.steps in
-    if_ok_both c.get.result _ _ _ (λ block is known store agrees.
-    is ∙ laid_read (g.S.Space.seen c.args.space.now) (g.S.Space.seen c.get.new.self) c.args.at.0 c.get.ensures.reads.only (g.met.S.Space.sound c.get.new.self) known store agrees
-    ∙ sym (planned_none c.args.at.0 (laid (g.S.Space.seen c.args.space.now) store) c.args.writes.now (length c.loop-write.yielded) (omega (arith, t.1)) c.loop-write.invariant))
-    c.get.ensures.answer c.get.ensures.known
+    let absent = planned_absent c.args.at.0 c.args.writes.now (length c.loop-write.yielded) (omega (arith, t.1)) c.loop-write.invariant in
+    absurd (true≢false (sym c.requires ∙ absent))

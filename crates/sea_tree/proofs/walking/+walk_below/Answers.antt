@@ -1,5 +1,5 @@
 use Rattle.sea_base.proofs.Calling.{call_none, call_spent, call_then}
-use Rattle.std.proofs.Common.{inl, ◌≡◌, ◌≤◌, ◌<◌, ◌-◌, ℕ, suc, length, List, Option, refl, ap, subst, ◌∙◌, arith}
+use Rattle.std.proofs.Common.{inl, ◌≡◌, ◌≤◌, ◌<◌, ◌-◌, ℕ, suc, length, List, Option, refl, ap, subst, arith}
 use Rattle.std.proofs.lemmas.Result.{err_from_is_err_and}
 use Rattle.std.specs.Option.{option_copied}
 use Rattle.sea_base.proofs.Spaces.{only_read-refl, only_read-trans}

@@ -1,5 +1,5 @@
 use Rattle.sea_base.specs.Ghosts.{IsCall}
-use Rattle.std.proofs.Common.{None, ◌≡◌, ◌≤◌, ◌-◌, IsTrue}
+use Rattle.std.proofs.Common.{None, ◌-◌}
 use Rattle.std.specs.Option.{option_copied}
 use Rattle.sea_base.specs.Space.{OnlyRead}
 use Rattle.sea_tree.specs.Reads.{ReadsListed}

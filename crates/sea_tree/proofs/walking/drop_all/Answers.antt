@@ -46,34 +46,29 @@ returns-clause-gone g c = λ store content meets.
     let dropped = subst (λ (ns : List Laddr). Dropped (map (λ at. at.0) ns) (g.S.Space.seen c.args.space.now) (g.S.Space.seen c.loop-at.space)) all end.dropped in
     becomes_empty store c.args.root.0 (g.S.Space.seen c.args.space.now) (g.S.Space.seen c.loop-at.space) content walked.0 (map (λ at. at.0) c.items-at-items.result.now) dropped walked.1 meets end.next
 
-pub returns-clause-whole : goal.returns-clause-whole
-returns-clause-whole g c = λ store agrees. (c.loop-at.invariant.walked store agrees).1.tree
-
-pub returns-clause-own : goal.returns-clause-own
-returns-clause-own g c = λ store at agrees changed.
-    let end = c.loop-at.invariant in
-    let walked = end.walked store agrees in
-    let all : take c.loop-at.at-index c.items-at-items.result.now ≡ c.items-at-items.result.now = take_all c.loop-at.at-index c.items-at-items.result.now (omega (arith, c.loop-at-test.false)) in
-    let dropped = subst (λ (ns : List Laddr). Dropped (map (λ at. at.0) ns) (g.S.Space.seen c.args.space.now) (g.S.Space.seen c.loop-at.space)) all end.dropped in
-    elim (dropped.changed at changed) [ inl was ↦ inl was | inr gone ↦ inr ((walked.1.nodes at).0 gone) ]
-
-pub returns-in_err-walk-clause-unchanged : goal.returns-in_err-walk-clause-unchanged
-returns-in_err-walk-clause-unchanged g c =
-    let p = err_from_is_err_and c.from_residual.result c.from_residual.ensures.1 in
-    rw (p.1, p.2) (read_unchanged (Does-read c.in_err-walk.ensures.reads) c.in_err-walk.field-0.0)
-
 pub returns-in_err-drop_at-clause-call : goal.returns-in_err-drop_at-clause-call
 returns-in_err-drop_at-clause-call g c =
     let p = err_from_is_err_and c.from_residual-in_err-drop_at.result c.from_residual-in_err-drop_at.ensures.1 in
     rw (p.1, p.2) (call_then g.S.Space g.met.S.Space.frame c.loop-at.invariant.call c.in_err-drop_at.ensures.call)
 
-pub returns-clause-within : goal.returns-clause-within
-returns-clause-within g c q =
+pub returns-clause-footprint : goal.returns-clause-footprint
+returns-clause-footprint g c =
     let end = c.loop-at.invariant in
-    elim (end.listed q) [
-      | inl same ↦ inl same
-      | inr here ↦ inr (λ store agrees. elim (Contains-cases c.args.root.0 (map (λ at. at.0) c.items-at-items.result.now) q here) [
-        | inl same ↦ inl (sym same)
-        | inr later ↦ inr (((end.walked store agrees).1.nodes q).0 later)
-      ])
-    ]
+    let all : take c.loop-at.at-index c.items-at-items.result.now ≡ c.items-at-items.result.now = take_all c.loop-at.at-index c.items-at-items.result.now (omega (arith, c.loop-at-test.false)) in
+    let dropped = subst (λ (ns : List Laddr). Dropped (map (λ at. at.0) ns) (g.S.Space.seen c.args.space.now) (g.S.Space.seen c.loop-at.space)) all end.dropped in
+    record {
+      whole = λ store agrees. (end.walked store agrees).1.tree;
+      own = λ store at agrees changed. elim (dropped.changed at changed) [ inl was ↦ inl was | inr gone ↦ inr (((end.walked store agrees).1.nodes at).0 gone) ];
+      within = λ q. elim (end.listed q) [
+        | inl same ↦ inl same
+        | inr here ↦ inr (λ store agrees. elim (Contains-cases c.args.root.0 (map (λ at. at.0) c.items-at-items.result.now) q here) [
+          | inl same ↦ inl (sym same)
+          | inr later ↦ inr (((end.walked store agrees).1.nodes q).0 later)
+        ])
+      ];
+    }
+
+pub returns-in_err-walk-clause-failure : goal.returns-in_err-walk-clause-failure
+returns-in_err-walk-clause-failure g c =
+    let p = err_from_is_err_and c.from_residual.result c.from_residual.ensures.1 in
+    rw (p.1, p.2) (record { blames = c.in_err-walk.ensures.fault; unchanged = read_unchanged (Does-read c.in_err-walk.ensures.reads) c.in_err-walk.field-0.0 })

@@ -1,5 +1,5 @@
 use Rattle.sea_base.specs.Ghosts.{IsCall}
-use Rattle.std.proofs.Common.{◌∷◌, None, ◌≡◌, ◌≤◌, ℕ, IsTrue, take, map}
+use Rattle.std.proofs.Common.{◌∷◌, None, ◌≡◌, ℕ, take, map}
 use Rattle.sea_base.specs.Space.{Store, Agrees, laid}
 use Rattle.sea_tree.specs.Reads.{ReadsListed}
 use Rattle.sea_tree.specs.Calls.{IsWalked}

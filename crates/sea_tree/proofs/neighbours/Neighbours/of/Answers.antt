@@ -18,7 +18,7 @@ returns-then-parent-entries-clause-held g c =
     (omega (arith, c.if-parent-entries.true, ap length c.items-entries.ensures)) c.requires.child c.requires.small c.in_ok-right.ensures.child
     (child_laid old new parent (parent.index + 1) level q fs c.child_of.ensures.reads (g.met.S.Space.sound c.child_of.new.space) c.in_ok-right.ensures.known c.in_ok-right.ensures.child)
     (c.index-entries-index.is ∙ ap (λ (es : List Entry). get_or es (parent.index + 1) e) c.items-entries.ensures)
-    refl refl (c.in_ok-copy.ensures ∙ ap (λ (x : Entry). x.0) (sym c.index-entries-index.is)) c.in_ok-merged.ensures.level c.in_ok-merged.ensures.entries
+    refl refl (c.in_ok-copy.ensures ∙ ap (λ (x : Entry). x.0) (sym c.index-entries-index.is)) c.in_ok-merged.ensures.level c.in_ok-merged.ensures.entries c.in_ok-right.ensures.one
 
 pub returns-clause-held : goal.returns-clause-held
 returns-clause-held g c =
@@ -36,4 +36,4 @@ returns-clause-held g c =
     (omega (arith, last, two)) c.requires.index last c.requires.child c.requires.small c.in_ok-left.ensures.child
     (child_laid old new parent (parent.index - 1) level q fs c.child_of-2.ensures.reads (g.met.S.Space.sound c.child_of-2.new.space) c.in_ok-left.ensures.known c.in_ok-left.ensures.child)
     (c.index-entries-parent.is ∙ ap (λ (es : List Entry). get_or es parent.index e) c.items-entries.ensures)
-    refl refl (c.in_ok-copy-2.ensures ∙ ap (λ (x : Entry). x.0) (sym c.index-entries-parent.is)) (c.in_ok-merged-2.ensures.level ∙ c.in_ok-left.ensures.level) c.in_ok-merged-2.ensures.entries
+    refl refl (c.in_ok-copy-2.ensures ∙ ap (λ (x : Entry). x.0) (sym c.index-entries-parent.is)) (c.in_ok-merged-2.ensures.level ∙ c.in_ok-left.ensures.level) c.in_ok-merged-2.ensures.entries c.in_ok-left.ensures.one
