@@ -5,8 +5,11 @@ pub mod Fronts
 pub mod Guiding
 pub mod Items
 pub mod Lookups
+pub mod Makings
 pub mod Printing
 pub mod Reaching
+pub mod Rebuilding
+pub mod Relocations
 pub mod Rising
 pub mod Roots
 pub mod Searches

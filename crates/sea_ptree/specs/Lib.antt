@@ -1,7 +1,10 @@
 pub mod Blocks
 pub mod Faults
+pub mod Fresh
+pub mod Making
 pub mod Node
 pub mod Reading
+pub mod Rebuilding
 pub mod Run
 pub mod Tree
 pub mod View
