@@ -4,13 +4,17 @@ pub mod EntryBytes
 pub mod Fronts
 pub mod Guiding
 pub mod Items
+pub mod Layings
 pub mod Lookups
 pub mod Makings
+pub mod Mendings
+pub mod Merges
 pub mod Printing
 pub mod Reaching
 pub mod Rebuilding
 pub mod Relocations
 pub mod Rising
+pub mod Roofs
 pub mod Roots
 pub mod Searches
 pub mod Steps

@@ -1,7 +1,10 @@
 pub mod Blocks
 pub mod Faults
 pub mod Fresh
+pub mod Laying
 pub mod Making
+pub mod Mending
+pub mod Merging
 pub mod Node
 pub mod Reading
 pub mod Rebuilding

@@ -1,0 +1,4 @@
+mod dice;
+mod faults;
+mod plain;
+mod random;

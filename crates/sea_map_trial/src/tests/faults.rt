@@ -1,0 +1,105 @@
+use super::plain::read_tree;
+use crate::fault::TrialFault;
+use crate::map_tree::MapTree;
+use crate::trial::{push, slot_of};
+use sea_base::{Block, PRoot, Paddr, Slot, SpaceFault, Sum, sum_of};
+use sea_ptree::{Kind, Node, PFault, Run, get};
+use std::alloc::Global;
+
+// A tree of three leaves.
+fn three_leaves(alloc: Global) -> Result<MapTree, TrialFault> {
+    let mut tree = MapTree::new(alloc);
+    for from in 0..4u64 {
+        let mut run = Run::new(alloc);
+        for key in from * 64..from * 64 + 64 {
+            push(&mut run, key, Some(slot_of(key)))?;
+        }
+        tree.merge(&run)?;
+    }
+    Ok(tree)
+}
+
+#[test]
+fn a_place_that_fails_is_answered(rt: HostRuntime) -> Result<(), TrialFault> {
+    let mut tree = three_leaves(rt.alloc())?;
+    let root = tree.root();
+    assert!(rt; root.height == 2);
+    tree.blocks.fail_at(root.at);
+    let fault = TrialFault::Tree(PFault::Space(SpaceFault::DeviceFault));
+    assert!(rt; tree.get(7) == Err(fault));
+    assert!(rt; tree.relocate(7, 0).err() == Some(fault));
+    let run = Run::new(rt.alloc());
+    assert!(rt; tree.merge(&run).err() == Some(fault));
+    assert!(rt; tree.blocks.faults() == 3);
+    assert!(rt; tree.root() == root);
+    Ok(())
+}
+
+#[test]
+fn a_run_without_keys_writes_the_first_leaf(rt: HostRuntime) -> Result<(), TrialFault> {
+    let alloc = rt.alloc();
+    let mut tree = MapTree::new(alloc);
+    assert!(rt; tree.merge(&Run::new(alloc))?.fresh == 0);
+    assert!(rt; tree.root().height == 0);
+    let mut tree = three_leaves(alloc)?;
+    let old = read_tree(alloc, &mut tree)?;
+    assert!(rt; tree.merge(&Run::new(alloc))?.fresh == 2);
+    let now = read_tree(alloc, &mut tree)?;
+    assert!(rt; now.good);
+    assert!(rt; now.pairs == old.pairs);
+    Ok(())
+}
+
+// The bytes of a leaf of two pairs, in which one byte is another.
+fn broken(alloc: Global, at: usize, byte: u8) -> Result<Block, TrialFault> {
+    let mut bytes = vec![in alloc; 0; 4096]?;
+    bytes[..8].copy_from_slice(&[83, 76, 66, 65, 0, 0, 0, 2]);
+    bytes[39] = 1;
+    bytes[67] = 2;
+    if at < 4096 {
+        bytes[at] = byte;
+    }
+    Ok(Block::from_vec(bytes)?)
+}
+
+#[test]
+fn a_broken_node_is_none(rt: HostRuntime) -> Result<(), TrialFault> {
+    let alloc = rt.alloc();
+    let whole = broken(alloc, 4096, 0)?;
+    assert!(rt; Node::parse(alloc, Kind::Mapping, &whole)?.is_some());
+    assert!(rt; Node::parse(alloc, Kind::Owners, &whole)?.is_none());
+    // the word, the level, the zero, the count, the zeros, a key out of order, behind the entries
+    for (at, byte) in [
+        (0, 1),
+        (4, 8),
+        (5, 1),
+        (6, 1),
+        (7, 0),
+        (8, 1),
+        (39, 2),
+        (4095, 1),
+    ] {
+        let block = broken(alloc, at, byte)?;
+        assert!(rt; Node::parse(alloc, Kind::Mapping, &block)?.is_none());
+    }
+    // a leaf is no node of the level above, and a version stands in none of these
+    let sum = sum_of(&whole);
+    let mut tree = MapTree::new(alloc);
+    tree.blocks.lay(whole)?;
+    let root = PRoot {
+        at: Paddr(0),
+        height: 2,
+        sum,
+    };
+    let none = PFault::NoNode { block: Paddr(0) };
+    assert!(rt; get(&mut tree.blocks, Kind::Mapping, root, 1) == Err(none));
+    let leaf = PRoot { height: 1, ..root };
+    let slot: Option<Slot> = get(&mut tree.blocks, Kind::Mapping, leaf, 1)?;
+    assert!(rt; slot.is_some());
+    let other = PRoot {
+        sum: Sum(sum.0 ^ 1),
+        ..leaf
+    };
+    assert!(rt; get(&mut tree.blocks, Kind::Mapping, other, 1).is_err());
+    Ok(())
+}

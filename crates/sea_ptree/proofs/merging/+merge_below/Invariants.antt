@@ -1,0 +1,4 @@
+use Rattle.sea_ptree.proofs.merging.+merge_below.Given as goal
+
+abbrev pub decreases-merge_below : goal.decreases-merge_below
+decreases-merge_below g l = l.level
