@@ -9,6 +9,8 @@ pub mod Lookups
 pub mod Makings
 pub mod Mendings
 pub mod Merges
+pub mod Moves
+pub mod Once
 pub mod Printing
 pub mod Reaching
 pub mod Rebuilding

@@ -22,6 +22,7 @@ use Rattle.sea_ptree.proofs.Guiding.{one_node}
 use Rattle.sea_ptree.proofs.Items.{all_pairs, AllStand, all_pairs-parts, picked}
 use Rattle.sea_ptree.proofs.Lookups.{held_lie, item_held, stands_at}
 use Rattle.sea_ptree.proofs.Makings.{has_before, wrote_onward, wrote_exchanges}
+use Rattle.sea_ptree.proofs.Once.{tree_once}
 use Rattle.sea_ptree.proofs.Reaching.{fault_step}
 use Rattle.sea_ptree.proofs.Rebuilding.{all_places, entries_of, all_front, all_back, taken, written, node_written, rebuilt_as, after_taken, around}
 use Rattle.sea_ptree.proofs.Rising.{Lie, Lie-split, Lie-rising}
@@ -85,8 +86,8 @@ step_up old mid up level link child es below index e e' m0 m1 m2 m3 is kept lead
 -- ---- the root
 
 -- what was made under a root, and the tree that stands there
-pub renewed_root : (kind : Kind) (new : Image) (root : PRoot) (fresh : Fresh) (first made : Making) (content : Content) (old is : List ℕ) (place : ℕ) → first.place ≡ place → first.nodes.items ≡ [] → first.dead.items ≡ [] → made.place ≡ place → IsMade made root fresh → Exchanges first made old is → IsTree kind new root content is → Renewed kind new fresh place content old
-renewed_root kind new root fresh first made content old is place at_first no_nodes no_dead at_made is_made exchanges tree =
+pub renewed_root : (kind : Kind) (new : Image) (root : PRoot) (fresh : Fresh) (first made : Making) (content : Content) (old is : List ℕ) (place : ℕ) → ((at : ℕ) → times at old ≤ 1) → first.place ≡ place → first.nodes.items ≡ [] → first.dead.items ≡ [] → made.place ≡ place → IsMade made root fresh → Exchanges first made old is → IsTree kind new root content is → Renewed kind new fresh place content old
+renewed_root kind new root fresh first made content old is place once at_first no_nodes no_dead at_made is_made exchanges tree =
     let dead : numbers made.dead.items ≡ numbers fresh.dead = ap numbers (sym is_made.dead) in
     let count : length made.nodes.items ≡ length fresh.nodes = ap length (sym is_made.nodes) in
     record {
@@ -94,6 +95,14 @@ renewed_root kind new root fresh first made content old is place at_first no_nod
       tree = subst (λ (r : PRoot). IsTree kind new r content is) (sym is_made.root_is) tree;
       exchanged = λ at. omega (arith, exchanges.balance at, ap (times at) dead, fresh_now at, none_dead at, none_fresh at);
       dead = λ at. omega (arith, exchanges.dead at, ap (times at) dead, none_dead at);
+      once = λ at. (tree_once kind new root.height (root_link root) content is tree at, omega (arith, exchanges.dead at, ap (times at) dead, none_dead at, once at));
+      exact = λ at apart. (
+        (
+          λ gone. (omega (arith, gone, exchanges.dead at, ap (times at) dead, none_dead at), omega (arith, gone, apart, exchanges.balance at, exchanges.dead at, ap (times at) dead, fresh_now at, none_dead at, none_fresh at)),
+          λ lost. omega (arith, lost.0, lost.1, apart, exchanges.balance at, ap (times at) dead, fresh_now at, none_dead at, none_fresh at),
+        ),
+        λ fresh_one. omega (arith, fresh_one, apart, exchanges.balance at, exchanges.dead at, ap (times at) dead, fresh_now at, none_dead at, none_fresh at),
+      );
     }
   where
     fresh_now : (at : ℕ) → times at (places_from made.place (length made.nodes.items)) ≡ times at (places_from place (length fresh.nodes))
@@ -137,7 +146,7 @@ relocated kind kind' image height level place root link es e fresh first old mad
     let node = holds.node.spells.node in
     let tree' = root_tree kind new level first.place es (all_pairs level items) first old made (link.at.0 ∷ all_places level items) e content (held_lie kind image level link items holds) r wrote (onward.kind ∙ first_kind) (sym onward.place) has' fits (omega (arith, t'.2, count)) (omega (arith, count, node.some, length-map items (entry_of level))) (omega (arith, count, node.room, length-map items (entry_of level))) t'.3 in
     let at_made : made.place ≡ place = wrote.place ∙ onward.place ∙ at_first in
-    renewed_root kind new (record { at = e.1.at; height = root.height; sum = e.1.sum }) fresh first made content places_of (e.1.at.0 ∷ all_places level r.items) place at_first no_nodes no_dead at_made is_made
+    renewed_root kind new (record { at = e.1.at; height = root.height; sum = e.1.sum }) fresh first made content places_of (e.1.at.0 ∷ all_places level r.items) place (tree_once kind image root.height (root_link root) content places_of tree) at_first no_nodes no_dead at_made is_made
     (subst (λ (ps : List ℕ). Exchanges first made ps (e.1.at.0 ∷ all_places level r.items)) (sym t'.4) (wrote_exchanges first old made level es e (link.at.0 ∷ all_places level items) (all_places level r.items) wrote r.exchanges))
     (subst (λ (h : ℕ). IsTreeOf kind new h (link_of e.1) content (e.1.at.0 ∷ all_places level r.items)) is tree')
 

@@ -23,6 +23,7 @@ use Rattle.sea_ptree.proofs.Lookups.{held_lie, leaf_pairs}
 use Rattle.sea_ptree.proofs.Makings.{has_before, wrote_onward, wrote_exchanges, onward_by, exchanges_as}
 use Rattle.sea_ptree.proofs.Mendings.{parts_written, exchanges_none}
 use Rattle.sea_ptree.proofs.Merges.{all_stand, no_places, no_items, headed, least_small}
+use Rattle.sea_ptree.proofs.Once.{tree_once}
 use Rattle.sea_ptree.proofs.Rebuilding.{all_places, entries_of, AllFit, AllMayStand}
 use Rattle.sea_ptree.proofs.Relocations.{renewed_root, root_tree}
 use Rattle.sea_ptree.proofs.Rising.{Lie, Lie-rising}
@@ -100,7 +101,7 @@ merged kind image level place root link run es new_root fresh first old made is 
     let lie = laid_lie run (all_pairs level t.0) fits (held_lie kind image level link t.0 t.1) in
     let entries_are = laid_entries run content ∙ ap (pairs_laid_over run) t.3 in
     let s = settled_root kind new level first.place es (pairs_laid_over run (all_pairs level t.0)) first old made (link.at.0 ∷ all_places level t.0) new_root (laid_over run content) lie r settles (onward.kind ∙ same) (sym onward.place) has' low room entries_are in
-    renewed_root kind new new_root fresh first made (laid_over run content) places_of s.0 place at_first no_nodes no_dead (onward'.place ∙ onward.place ∙ at_first) is_made (subst (λ (ps : List ℕ). Exchanges first made ps s.0) (sym t.4) s.1) s.2
+    renewed_root kind new new_root fresh first made (laid_over run content) places_of s.0 place (tree_once kind image root.height (root_link root) content places_of tree) at_first no_nodes no_dead (onward'.place ∙ onward.place ∙ at_first) is_made (subst (λ (ps : List ℕ). Exchanges first made ps s.0) (sym t.4) s.1) s.2
 
 -- a run over the empty tree
 pub merged_none : (kind : Kind) (image : Image) (place : ℕ) (root : PRoot) (run : List Update) (es : List Entry) (new_root : PRoot) (fresh : Fresh) (first made : Making) → root.height ≡ 0 → first.kind ≡ kind → first.place ≡ place → first.nodes.items ≡ [] → first.dead.items ≡ []
@@ -120,4 +121,4 @@ merged_none kind image place root run es new_root fresh first made is same at_fi
     let lie : Lie 0 (2 ^ 64) es = subst (Lie 0 (2 ^ 64)) (sym es_are) (laid_lie run [] fits (omega arith)) in
     let entries_are : entries (laid_over run content) ≡ es = laid_entries run content ∙ ap (pairs_laid_over run) t.2 ∙ sym es_are in
     let s = settled_root kind new 0 first.place es es first first made [] new_root (laid_over run content) lie r settles same refl has' (omega arith) room entries_are in
-    renewed_root kind new new_root fresh first made (laid_over run content) places_of s.0 place at_first no_nodes no_dead (onward.place ∙ at_first) is_made (subst (λ (ps : List ℕ). Exchanges first made ps s.0) (sym t.3) s.1) s.2
+    renewed_root kind new new_root fresh first made (laid_over run content) places_of s.0 place (tree_once kind image root.height (root_link root) content places_of tree) at_first no_nodes no_dead (onward.place ∙ at_first) is_made (subst (λ (ps : List ℕ). Exchanges first made ps s.0) (sym t.3) s.1) s.2

@@ -5,6 +5,7 @@ pub mod Laying
 pub mod Making
 pub mod Mending
 pub mod Merging
+pub mod Moving
 pub mod Node
 pub mod Reading
 pub mod Rebuilding

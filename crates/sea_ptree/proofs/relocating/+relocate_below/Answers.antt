@@ -3,11 +3,14 @@ use Rattle.std.proofs.lemmas.List.{length-set}
 use Rattle.std.proofs.lemmas.Result.{err_from_is_err_and}
 use Rattle.sea_ptree.specs.declared.making.Making.{Making}
 use Rattle.sea_ptree.specs.Making.{Wrote}
+use Rattle.sea_ptree.specs.Merging.{Towards}
 use Rattle.sea_ptree.specs.Node.{Entry}
+use Rattle.sea_ptree.specs.View.{Parts}
 use Rattle.sea_ptree.specs.Rebuilding.{Rebuilds}
 use Rattle.sea_ptree.specs.Tree.{Has}
 use Rattle.sea_ptree.proofs.Checks.{Next}
 use Rattle.sea_ptree.proofs.Guiding.{one_node}
+use Rattle.sea_ptree.proofs.Moves.{path_end, path_up, dead_up}
 use Rattle.sea_ptree.proofs.Reaching.{fault_here, want_here}
 use Rattle.sea_ptree.proofs.Relocations.{fault_up, next_there, step_up, taken_up, put_at}
 use Rattle.sea_ptree.proofs.Walks.{next_has}
@@ -61,4 +64,30 @@ returns-clause-same g t c told fs node =
     elim c.if-level-bottom.branch [
       | then-level-bottom+in_ok-below+in_ok-entries-2 w ↦ (λ i. length (w.entries-is i).items) ∙ length-set c.in_ok-entries.entries.items w.index_towards-index.result w.in_ok-entries-2.field-0 ∙ same
       | else-level-bottom w ↦ (λ i. length (w.entries-is i).items) ∙ same
+    ]
+
+pub returns-clause-path : goal.returns-clause-path
+returns-clause-path g t c told =
+    elim c.if-level-bottom.branch [
+      | then-level-bottom+in_ok-below+in_ok-entries-2 w ↦ (
+          let lt : w.index_towards-index.result < length c.in_ok-entries.entries.items = omega (arith, w.index_towards-index.ensures.within, ap length w.deref.ensures.value) in
+          let next = subst (Next c.in_ok-entries.entries.items w.index_towards-index.result) (sym w.index.ensures) (next_there c.in_ok-entries.entries.items w.index_towards-index.result w.index.result.now lt) in
+          let at = w.index_towards-index.ensures.parts in
+          let toward : Towards c.args.key c.in_ok-entries.entries.items w.index_towards-index.result = record {
+            count = at.0;
+            index_is = at.1;
+            parts = subst (λ (xs : List Entry). Parts c.args.key xs at.0) w.deref.ensures.value at.2;
+          } in
+          let below = w.in_ok-below.ensures.path (c.in_ok-entries.ensures.kept.0.tells ∙ told) in (
+            c.args.link.at ∷ below.0,
+            (λ i. (w.making-is i).dead.items) ∙ dead_up c.args.making.now c.take.new.self w.relocate_below.new.making w.write.new.self c.args.link.at (c.args.level - 1) _ w.in_ok-entries-2.field-0 below.0 c.in_ok-entries.ensures.took below.1 w.in_ok-entries-2.ensures,
+            path_up c.args.making.now.kind c.take.new.self.kind (g.B.Blocks.held c.args.blocks.now) (g.B.Blocks.held c.take.new.blocks) c.args.key c.args.bottom c.args.level (c.args.level - 1) c.args.link w.of-child.result c.in_ok-entries.entries.items w.index_towards-index.result w.index.result.now below.0
+                c.in_ok-entries.ensures.took.kind (omega (arith, w.if-level-bottom.true)) w.if-level-bottom.true c.in_ok-entries.ensures.kept w.of-child.ensures (c.in_ok-entries.ensures.node told) next toward below.2,
+          )
+          )
+      | else-level-bottom w ↦ (
+        c.args.link.at ∷ [],
+        (λ i. (w.making-is i).dead.items) ∙ c.in_ok-entries.ensures.took.dead,
+        path_end c.args.making.now.kind (g.B.Blocks.held c.args.blocks.now).image c.args.key c.args.bottom c.args.level c.args.link w.if-level-bottom.false,
+      )
     ]

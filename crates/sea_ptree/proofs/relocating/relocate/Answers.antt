@@ -1,10 +1,13 @@
-use Rattle.std.proofs.Common.{◌≡◌, ◌+◌, ◌-◌, ◌≤◌, ℕ, suc, List, sym, ap, subst, ◌∙◌, arith}
+use Rattle.std.proofs.Common.{◌≡◌, ◌+◌, ◌-◌, ◌≤◌, ◌++◌, ℕ, suc, List, sym, ap, subst, ◌∙◌, arith}
 use Rattle.std.proofs.lemmas.Result.{err_from_is_err_and}
 use Rattle.sea_base.specs.declared.space.SpaceFault.TheVariants.{NoMemory}
 use Rattle.sea_ptree.specs.declared.fault.PFault.TheVariants.{Space}
 use Rattle.sea_ptree.specs.declared.kind.Kind.{Kind}
 use Rattle.sea_ptree.specs.Faults.{IsFaultBelow, IsFaultFrom}
+use Rattle.sea_base.specs.declared.place.Paddr.{Paddr}
+use Rattle.sea_ptree.specs.declared.link.Link.{Link}
 use Rattle.sea_ptree.specs.Making.{Wrote}
+use Rattle.sea_ptree.specs.Moving.{IsPathTo}
 use Rattle.sea_ptree.specs.Node.{Entry}
 use Rattle.sea_ptree.specs.Tree.{Has, root_link}
 use Rattle.sea_ptree.proofs.Relocations.{relocated}
@@ -30,3 +33,11 @@ returns-clause-renewed g c told =
     relocated c.args.kind c.new-making.result.kind (g.B.Blocks.held c.args.blocks.now).image c.args.root.height (c.args.root.height - 1) c.args.place.0 c.args.root c.root-link.result c.in_ok-entries.entries.items (c.in_ok-slot.field-0-0, c.in_ok-slot.slot) c.done.result c.new-making.result c.relocate_below.new.making c.write.new.self
     (omega (arith, c.requires.level)) (omega (arith, c.requires.height)) c.new-making.ensures.kind c.new-making.ensures.place c.new-making.ensures.nodes c.new-making.ensures.dead c.root-link.ensures
     (c.in_ok-entries.ensures.rebuilt told) (c.in_ok-entries.ensures.same told) c.in_ok-entries.ensures.onward (subst (λ (xs : List Entry). Wrote c.relocate_below.new.making c.write.new.self (c.args.root.height - 1) xs (c.in_ok-slot.field-0-0, c.in_ok-slot.slot)) c.deref.ensures.value c.in_ok-slot.ensures) c.done.ensures c.new-making.ensures.kind
+
+pub returns-clause-path : goal.returns-clause-path
+returns-clause-path g c told =
+    let below = c.in_ok-entries.ensures.path told in
+    let dead : c.done.result.dead ≡ below.0 = c.done.ensures.dead ∙ c.in_ok-slot.ensures.dead ∙ below.1 ∙ ap (λ (ds : List Paddr). ds ++ below.0) c.new-making.ensures.dead in
+    subst (IsPathTo c.args.kind (g.B.Blocks.held c.args.blocks.now).image c.args.key c.args.level (c.args.root.height - 1) (root_link c.args.root)) (sym dead)
+    (subst (λ (l : Link). IsPathTo c.args.kind (g.B.Blocks.held c.args.blocks.now).image c.args.key c.args.level (c.args.root.height - 1) l below.0) c.root-link.ensures
+    (subst (λ (k : Kind). IsPathTo k (g.B.Blocks.held c.args.blocks.now).image c.args.key c.args.level (c.args.root.height - 1) c.root-link.result below.0) c.new-making.ensures.kind below.2))
