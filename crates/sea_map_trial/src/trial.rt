@@ -44,8 +44,7 @@ impl fmt::Display for Report {
     }
 }
 
-/// Merges so many runs of 64 keys into an empty tree, looks so many keys up, and sums a block so many
-/// times.
+/// Merges runs of 64 keys into an empty tree, looks keys up, and sums a block.
 pub fn run_trial(alloc: Global, counts: Counts) -> Result<Report, TrialFault> {
     let Counts {
         runs,
