@@ -13,7 +13,8 @@ use std::alloc::Global;
 /// `put` is more than 4,096.
 pub fn apply(alloc: Global, block: &Block, changes: &[Delta]) -> Result<Option<Block>, NoMemory>
     ensures some { IfOk result (λ made. IsSome made ↔ All HasRoom changes.now) }
-    ensures value { IfOk result (λ made. IfSome made (λ new. new ≡ after_all changes.now block.now)) }
+    ensures value { IfOk result
+        (λ made. IfSome made (λ new. new ≡ after_all changes.now block.now)) }
 {
     if !changes.iter().all(has_room) {
         return Ok(None);
@@ -36,7 +37,8 @@ fn has_room(change: &Delta) -> bool
 // The block that one splice makes of another.
 fn splice(alloc: Global, block: &Block, change: &Delta) -> Result<Block, NoMemory>
     requires { HasRoom change.now }
-    ensures { IfOk result (λ made. made ≡ spliced change.now.cut change.now.gone change.now.put block.now) }
+    ensures { IfOk result
+        (λ made. made ≡ spliced change.now.cut change.now.gone change.now.put block.now) }
 {
     let old = block.bytes();
     let cut = change.cut as usize;
