@@ -1,13 +1,12 @@
 -- What the entries of a node tell of a key, taken one after the other.
 use Rattle.std.proofs.Common.{◌≡◌, ◌≢◌, ℕ, ◌≤◌, List, [], ◌∷◌, ◌++◌, length, drop, ◌+◌, Option, Some, None, true, false, refl, sym, ap, subst, ◌∙◌, arith, append_assoc, length-append, length-drop}
 use Rattle.std.specs.List.{AllByRecursion}
-use Rattle.std.specs.Option.{is_some, option_or}
+use Rattle.std.specs.Option.{is_some, is_none}
 use Rattle.std.proofs.lemmas.Bool.{false≢true, true≢false}
 use Rattle.sea_node.specs.Entries.{Entry, IsBelow, IsNotAbove, IsRising, entry_bytes, entry_size, size}
 use Rattle.sea_node.specs.declared.reading.Span.{Span}
-use Rattle.sea_node.specs.declared.lookup.Passed.{Passed}
-use Rattle.sea_node.specs.Reading.{IsSpan, SpansAt, StandsAt, entry_in}
-use Rattle.sea_node.specs.Lookup.{front_key, EndsAt, AreAbove, Finds, IsBehind, IsSpanIf, HasSpans, keyed}
+use Rattle.sea_node.specs.Reading.{StandsAt}
+use Rattle.sea_node.specs.Lookup.{front_key, EndsAt, AreAbove, Finds, keyed}
 use Rattle.sea_node.proofs.Nodes.{size-append, size-one, length-entry_bytes}
 use Rattle.sea_node.proofs.Keys.{IsBelow-trans, not_below_itself, IsBelowAll, AreBelow, IsBelowAll-append, IsRising-one, IsRising-head, IsRising-tail, IsRising-append, IsRising-split}
 
@@ -23,37 +22,25 @@ below_more (b ∷ before) last e rising below =
     let first = all_behind (λ (d : Entry). IsBelow b.0 d.0) before (last ∷ []) (IsRising-head b (before ++ last ∷ []) rising) in
     ((IsBelow-trans b.0 last.0 e.0 first.0 below, tt), below_more before last e (IsRising-tail b (before ++ last ∷ []) rising) below)
 
-pub rising_more : (es : List Entry) (e : Entry) (last : Option (List ℕ)) → IsRising es → EndsAt es last → IsBehind last e.0 → IsRising (es ++ e ∷ [])
-rising_more es e None rising ends behind = subst (λ (fs : List Entry). IsRising (fs ++ e ∷ [])) (sym ends) (IsRising-one e)
-rising_more es e (Some last) rising (before, value, split) behind =
+pub rising_more : (es : List Entry) (e : Entry) (last : List ℕ) → IsRising es → EndsAt es (Some last) → IsBelow last e.0 → IsRising (es ++ e ∷ [])
+rising_more es e last rising (before, value, split) behind =
     let rises = subst IsRising split rising in
     subst (λ (fs : List Entry). IsRising (fs ++ e ∷ [])) (sym split) (IsRising-append (before ++ (last, value) ∷ []) (e ∷ []) rises (IsRising-one e) (below_more before (last, value) e rises behind))
 
-pub behind_last : (es : List Entry) (e : Entry) (last : Option (List ℕ)) → EndsAt es last → IsRising (es ++ e ∷ []) → IsBehind last e.0
-behind_last es e None ends rising = tt
-behind_last es e (Some last) (before, value, split) rising =
+pub behind_last : (es : List Entry) (e : Entry) (last : List ℕ) → EndsAt es (Some last) → IsRising (es ++ e ∷ []) → IsBelow last e.0
+behind_last es e last (before, value, split) rising =
     let whole = subst (λ (fs : List Entry). IsRising (fs ++ e ∷ [])) split rising in
     let below = (IsRising-split (before ++ (last, value) ∷ []) (e ∷ []) whole).2 in
     (all_behind (λ (d : Entry). IsBelowAll d.0 (e ∷ [])) before ((last, value) ∷ []) below).0.0
 
--- the first key, where one entry more comes
-pub first_or : (bytes : List ℕ) (es : List Entry) (first : Option Span) (span : Span) → keyed bytes first ≡ front_key es → keyed bytes (option_or first (Some span)) ≡ front_key (es ++ entry_in bytes span ∷ [])
-first_or bytes [] None span is = refl
-first_or bytes [] (Some start) span is = absurd (cc)
-first_or bytes (x ∷ es) None span is = absurd (cc)
-first_or bytes (x ∷ es) (Some start) span is = is
+-- the first key stays, where one entry more comes
+pub first_still : (es : List Entry) (e : Entry) (first : List ℕ) → Some first ≡ front_key es → Some first ≡ front_key (es ++ e ∷ [])
+first_still [] e first is = absurd (cc)
+first_still (x ∷ es) e first is = is
 
-pub span_or : (bytes : List ℕ) (first : Option Span) (span : Span) → IsSpanIf bytes first → IsSpan bytes span → IsSpanIf bytes (option_or first (Some span))
-span_or bytes None span first here = here
-span_or bytes (Some start) span first here = first
-
-pub some_keyed : (bytes : List ℕ) (span : Option Span) → is_some (keyed bytes span) ≡ is_some span
-some_keyed bytes None = refl
-some_keyed bytes (Some span) = refl
-
-pub none_keyed : (bytes : List ℕ) (span : Option Span) → is_some span ≡ false → keyed bytes span ≡ None
-none_keyed bytes None none = refl
-none_keyed bytes (Some span) none = absurd (true≢false none)
+pub is_keyed : (bytes : List ℕ) (span : Option Span) → is_none span ≡ false → is_some (keyed bytes span) ≡ true
+is_keyed bytes None some = absurd (true≢false some)
+is_keyed bytes (Some span) some = refl
 
 -- where an entry ends, and one entry more
 pub entry_ends : (bytes : List ℕ) (e : Entry) (at end : ℕ) → length bytes ≡ 4096 → at ≤ 4096 → StandsAt bytes at e end → end ≡ at + entry_size e
@@ -62,18 +49,6 @@ entry_ends bytes e at end len within stands =
 
 pub ends_more : (bytes : List ℕ) (es : List Entry) (e : Entry) (at end : ℕ) → length bytes ≡ 4096 → at ≤ 4096 → at ≡ 32 + size es → StandsAt bytes at e end → end ≡ 32 + size (es ++ e ∷ [])
 ends_more bytes es e at end len within is stands = omega (arith, entry_ends bytes e at end len within stands, size-append es (e ∷ []), size-one e)
-
--- where entries stand, with one entry more
-pub spans_more : (bytes : List ℕ) (passed : Passed) (span : Span) (found next : Option Span) → length bytes ≡ 4096 → HasSpans bytes passed → SpansAt bytes passed.end span → IsSpanIf bytes found → IsSpanIf bytes next
-    → HasSpans bytes (record { end = span.end; first = option_or passed.first (Some span); last = Some span; found = found; next = next })
-spans_more bytes passed span found next len spans stands found_is next_is = record {
-  front = omega (arith, entry_ends bytes (entry_in bytes span) passed.end span.end len spans.within stands.1, spans.front);
-  within = stands.0.within;
-  first_is = span_or bytes passed.first span spans.first_is stands.0;
-  last_is = stands.0;
-  found_is = found_is;
-  next_is = next_is;
-}
 
 no_first : (es : List Entry) → None ≡ front_key es → es ≡ []
 no_first [] none = refl
@@ -108,12 +83,6 @@ finds_still key es e found None is rising finds = absurd (false≢true is)
 finds_still key es e found (Some next) is rising finds = finds_kept key es e found next rising finds
 
 -- ---- what entries for a node tell
-
-pub not_none : (es : List Entry) → 1 ≤ length es → (None ≡ front_key es → ⊥) × (EndsAt es None → ⊥)
-not_none es some = (
-  (λ none. let empty = no_first es none in absurd (omega (arith, some, ap length empty))),
-  (λ empty. absurd (omega (arith, some, ap length empty))),
-)
 
 -- the first key is the last of one entry alone
 pub one_alone : (es : List Entry) (key : List ℕ) → IsRising es → Some key ≡ front_key es → EndsAt es (Some key) → 2 ≤ length es → ⊥

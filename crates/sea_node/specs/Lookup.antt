@@ -4,9 +4,8 @@ use Rattle.std.specs.List.{AllByRecursion}
 use Rattle.sea_node.specs.declared.lookup.Lookup.{Lookup}
 use Rattle.sea_node.specs.declared.lookup.Passed.{Passed}
 use Rattle.sea_node.specs.declared.reading.Span.{Span}
-use Rattle.sea_node.specs.Entries.{Entry, IsBelow, IsNotAbove, IsRising, size}
-use Rattle.sea_node.specs.Reading.{AreEntries, IsSpan, key_in, entry_in}
-use Rattle.sea_base.specs.declared.block.TheConstants.{BLOCK_BYTES}
+use Rattle.sea_node.specs.Entries.{Entry, IsBelow, IsNotAbove, IsRising, size, entries_bytes}
+use Rattle.sea_node.specs.Reading.{IsEntry, AreEntries, BeginsWithEntry, IsSpan, SpansAt, key_in, entry_in}
 
 -- the key of the first of some entries, if there is one
 abbrev pub front_key : List Entry → Option (List ℕ)
@@ -54,31 +53,56 @@ IsSpanIf bytes (Some span) = IsSpan bytes span
 
 -- where entries stand that tell of a key
 pub record HasSpans (bytes : List ℕ) (passed : Passed) : Type 0 where
-  pub front : 32 ≤ passed.end
-  pub within : passed.end ≤ BLOCK_BYTES
-  pub first_is : IsSpanIf bytes passed.first
-  pub last_is : IsSpanIf bytes passed.last
+  pub front : 32 ≤ passed.last.end
+  pub first_is : IsSpan bytes passed.first
+  pub last_is : IsSpan bytes passed.last
   pub found_is : IsSpanIf bytes passed.found
   pub next_is : IsSpanIf bytes passed.next
 
 -- what some entries of a node tell of a key
 pub record Passes (bytes : List ℕ) (key : List ℕ) (entries : List Entry)
     (passed : Passed) : Type 0 where
-  pub end_is : passed.end ≡ 32 + size entries
-  pub first_is : keyed bytes passed.first ≡ front_key entries
-  pub last_is : EndsAt entries (keyed bytes passed.last)
+  pub end_is : passed.last.end ≡ 32 + size entries
+  pub first_is : Some (key_in bytes passed.first) ≡ front_key entries
+  pub last_is : EndsAt entries (Some (key_in bytes passed.last))
   pub finds : Finds key entries (entered bytes passed.found) (keyed bytes passed.next)
+
+-- the value of an entry may stand in a node of a level
+abbrev pub HasValueOf : ℕ → Entry → Type 0
+HasValueOf level entry = 1 ≤ level → length entry.1 ≡ 8
+
+-- The first entries that a block has behind its first bytes, up to a place, may stand in a node of a
+-- level.
+pub record IsBegun (bytes : List ℕ) (level : ℕ) (end : ℕ) (entries : List Entry) : Type 0 where
+  pub all : AllByRecursion IsEntry entries
+  pub values : AllByRecursion (HasValueOf level) entries
+  pub rising : IsRising entries
+  pub read : drop 32 bytes ≡ entries_bytes entries ++ drop end bytes
 
 -- the entries that a block has behind its first bytes may stand in a node of a level
 pub record IsRead (bytes : List ℕ) (level : ℕ) (entries : List Entry) : Type 0 where
   pub read : AreEntries (drop 32 bytes) entries
-  pub values : AllByRecursion (λ e. 1 ≤ level → length e.1 ≡ 8) entries
+  pub values : AllByRecursion (HasValueOf level) entries
   pub rising : IsRising entries
 
--- a key is above another, if there is one
-abbrev pub IsBehind : Option (List ℕ) → List ℕ → Type 0
-IsBehind None key = Unit {0}
-IsBehind (Some last) key = IsBelow last key
+-- an entry of a node of a level stands at a place where a span says
+abbrev pub HasEntry : List ℕ → ℕ → ℕ → Span → Type 0
+HasEntry bytes level at span = SpansAt bytes at span × HasValueOf level (entry_in bytes span)
+
+abbrev pub HasNoEntry : List ℕ → ℕ → ℕ → Type 0
+HasNoEntry bytes level at =
+    (entry : Entry) (rest : List ℕ) → BeginsWithEntry (drop at bytes) entry rest
+    → HasValueOf level entry → ⊥
+
+-- an entry goes on where another ends, and its key is above that one's
+abbrev pub GoesOn : List ℕ → ℕ → Span → Span → Type 0
+GoesOn bytes level last span =
+    HasEntry bytes level last.end span × IsBelow (key_in bytes last) (key_in bytes span)
+
+abbrev pub GoesOnNoMore : List ℕ → ℕ → Span → Type 0
+GoesOnNoMore bytes level last =
+    (entry : Entry) (rest : List ℕ) → BeginsWithEntry (drop last.end bytes) entry rest
+    → HasValueOf level entry → IsBelow (key_in bytes last) entry.0 → ⊥
 
 -- there are entries enough for a node of a level
 abbrev pub IsEnough : ℕ → List Entry → Type 0

@@ -1,9 +1,9 @@
 //! A key looked up in a node in place, with no list of the node's entries.
-ghost use Rattle.std.specs.Prelude.{◌≡◌, ℕ, ◌≤◌, ◌↔◌, [], ◌∷◌, ◌++◌, List, IfOk, IfSome, IfNone, IsTrue, length};
+ghost use Rattle.std.specs.Prelude.{◌≡◌, ℕ, ◌≤◌, List, IfOk, IfSome, IfNone, MatchOption, length};
 ghost use Rattle.sea_node.specs.Entries.{Entry, IsRising};
 ghost use Rattle.sea_node.specs.Node.{Spells};
-ghost use Rattle.sea_node.specs.Reading.{BeginsAtLevel, SpansAt, IsSpan, key_in, entry_in};
-ghost use Rattle.sea_node.specs.Lookup.{Tells, Passes, HasSpans, IsSpanIf, IsRead, IsBehind, IsEnough, keyed, entered};
+ghost use Rattle.sea_node.specs.Reading.{BeginsAtLevel, IsSpan, key_in, entry_in};
+ghost use Rattle.sea_node.specs.Lookup.{Tells, Passes, HasSpans, IsSpanIf, IsBegun, IsRead, HasEntry, HasNoEntry, GoesOn, GoesOnNoMore, IsEnough, keyed, entered};
 
 use crate::Node;
 use crate::node::FRONT_BYTES;
@@ -28,13 +28,11 @@ pub struct Lookup {
     pub next: Option<Key>,
 }
 
-// Where the entries of a block stand, of those so far, that tell of a key.
+// Where the entries of a block stand that tell of a key.
 #[derive(Clone, Copy)]
 struct Passed {
-    // Where the entries so far end.
-    end: usize,
-    first: Option<Span>,
-    last: Option<Span>,
+    first: Span,
+    last: Span,
     // The last entry whose key is not above the key.
     found: Option<Span>,
     // The first entry whose key is above the key.
@@ -62,20 +60,6 @@ impl Node {
 }
 
 impl Passed {
-    // What no entries tell.
-    fn none() -> Passed
-        ensures none { (bytes key : List ℕ) → Passes bytes key [] result }
-        ensures spans { (bytes : List ℕ) → HasSpans bytes result }
-    {
-        Passed {
-            end: FRONT_BYTES,
-            first: None,
-            last: None,
-            found: None,
-            next: None,
-        }
-    }
-
     // What all entries of a block tell, if they may stand in a node of a level.
     fn through(bytes: &[u8], level: u32, key: &[u8]) -> Option<Passed>
         requires block { length bytes.now ≡ BLOCK_BYTES }
@@ -87,64 +71,75 @@ impl Passed {
             → Spells bytes.now level entries
             → ⊥) }
     {
-        let mut passed = Passed::none();
-        'entries: while passed.end < BLOCK_BYTES && bytes[passed.end] != 0 {
-            let Some(entry) = span_at(bytes, passed.end) else {
-                return None;
-            };
-            if !passed.admits(bytes, level, entry) {
-                return None;
-            }
-            passed.take(bytes, entry, key);
-        }
-        if !is_zero(&bytes[passed.end..]) {
+        let Some(first) = entry_at(bytes, level, FRONT_BYTES) else {
+            return None;
+        };
+        let found = Passed::seek(bytes, level, first, key);
+        let passed = found.to_end(bytes, level);
+        if !is_zero(&bytes[passed.last.end..]) {
             return None;
         }
         Some(passed)
     }
 
-    // Whether an entry may stand behind those so far, in a node of a level.
-    fn admits(&self, bytes: &[u8], level: u32, entry: Span) -> bool
+    // What the entries from the first one on tell, up to one above the key or to the last.
+    fn seek(bytes: &[u8], level: u32, first: Span, key: &[u8]) -> Passed
         requires block { length bytes.now ≡ BLOCK_BYTES }
-        requires entry { IsSpan bytes.now entry }
-        requires spans { HasSpans bytes.now self.now }
-        ensures { IsTrue result ↔ (IsBehind (keyed bytes.now self.now.last) (key_in bytes.now entry)
-            × (1 ≤ level → length (entry_in bytes.now entry).1 ≡ 8)) }
+        requires first { HasEntry bytes.now level FRONT_BYTES first }
+        ensures passed { (entries : List Entry)
+            × IsBegun bytes.now level result.last.end entries
+            × Passes bytes.now key.now entries result }
+        ensures spans { HasSpans bytes.now result }
+        ensures ends { IfNone result.next (GoesOnNoMore bytes.now level result.last) }
     {
-        if level > 0 && entry.end - entry.value_at != ADDRESS_BYTES {
-            return false;
+        if comes_before(key, &bytes[first.key_at..first.value_at]) {
+            return Passed {
+                first,
+                last: first,
+                found: None,
+                next: Some(first),
+            };
         }
-        match self.last {
-            Some(last) => comes_before(
-                &bytes[last.key_at..last.value_at],
-                &bytes[entry.key_at..entry.value_at],
-            ),
-            None => true,
+        let mut last = first;
+        'seek: while let Some(entry) = entry_behind(bytes, level, last) {
+            if comes_before(key, &bytes[entry.key_at..entry.value_at]) {
+                return Passed {
+                    first,
+                    last: entry,
+                    found: Some(last),
+                    next: Some(entry),
+                };
+            }
+            last = entry;
+        }
+        Passed {
+            first,
+            last,
+            found: Some(last),
+            next: None,
         }
     }
 
-    // Takes the entry behind those so far.
-    fn take(&mut self, bytes: &[u8], entry: Span, key: &[u8])
+    // The same with all entries behind, where those so far go up to one above the key.
+    fn to_end(self, bytes: &[u8], level: u32) -> Passed
         requires block { length bytes.now ≡ BLOCK_BYTES }
-        requires entry { SpansAt bytes.now self.old.end entry }
-        requires spans { HasSpans bytes.now self.old }
-        ensures takes { (entries : List Entry) → IsRising (entries ++ entry_in bytes.now entry ∷ [])
-            → Passes bytes.now key.now entries self.old
-            → Passes bytes.now key.now (entries ++ entry_in bytes.now entry ∷ []) self.new }
-        ensures spans { HasSpans bytes.now self.new }
-        ensures end { self.new.end ≡ entry.end }
+        requires spans { HasSpans bytes.now self }
+        requires ends { IfNone self.next (GoesOnNoMore bytes.now level self.last) }
+        ensures passed { (key : List ℕ) (entries : List Entry)
+            → IsBegun bytes.now level self.last.end entries → Passes bytes.now key entries self
+            → (all : List Entry) × IsBegun bytes.now level result.last.end all
+            × Passes bytes.now key all result }
+        ensures spans { HasSpans bytes.now result }
+        ensures ends { GoesOnNoMore bytes.now level result.last }
     {
-        self.end = entry.end;
-        self.first = self.first.or(Some(entry));
-        self.last = Some(entry);
-        if self.next.is_some() {
-            return;
+        if self.next.is_none() {
+            return self;
         }
-        if comes_before(key, &bytes[entry.key_at..entry.value_at]) {
-            self.next = Some(entry);
-        } else {
-            self.found = Some(entry);
+        let mut last = self.last;
+        'rest: while let Some(entry) = entry_behind(bytes, level, last) {
+            last = entry;
         }
+        Passed { last, ..self }
     }
 
     // What a node of a level with these entries tells, if they are enough for one.
@@ -157,26 +152,59 @@ impl Passed {
         ensures none { IfOk result (λ found. IfNone found ((key : List ℕ) (entries : List Entry)
             → IsRising entries → Passes block.now key entries self → IsEnough level entries → ⊥)) }
     {
-        let Some(start) = self.first else {
-            return Ok(None);
-        };
-        let Some(end) = self.last else {
-            return Ok(None);
-        };
+        let Passed {
+            first,
+            last,
+            found,
+            next,
+        } = self;
         let bytes = block.bytes();
         // The only entry of a node is its first and its last.
-        if level > 0 && &bytes[start.key_at..start.value_at] == &bytes[end.key_at..end.value_at] {
+        if level > 0 && &bytes[first.key_at..first.value_at] == &bytes[last.key_at..last.value_at] {
             return Ok(None);
         }
         Ok(Some(Lookup {
             level,
-            size: self.end - FRONT_BYTES,
-            first: share_key(block, start)?,
-            last: share_key(block, end)?,
-            found: share_found(block, self.found)?,
-            next: share_next(block, self.next)?,
+            size: last.end - FRONT_BYTES,
+            first: share_key(block, first)?,
+            last: share_key(block, last)?,
+            found: share_found(block, found)?,
+            next: share_next(block, next)?,
         }))
     }
+}
+
+// Where the parts of an entry of a node of a level are that stands at a place.
+#[inline(always)]
+fn entry_at(bytes: &[u8], level: u32, at: usize) -> Option<Span>
+    requires block { length bytes.now ≡ BLOCK_BYTES }
+    requires within { at ≤ BLOCK_BYTES }
+    ensures { MatchOption result (HasNoEntry bytes.now level at) (HasEntry bytes.now level at) }
+{
+    let Some(entry) = span_at(bytes, at) else {
+        return None;
+    };
+    if level > 0 && entry.end - entry.value_at != ADDRESS_BYTES {
+        return None;
+    }
+    Some(entry)
+}
+
+// The same of an entry that goes on where another ends.
+#[inline(always)]
+fn entry_behind(bytes: &[u8], level: u32, last: Span) -> Option<Span>
+    requires block { length bytes.now ≡ BLOCK_BYTES }
+    requires last { IsSpan bytes.now last }
+    ensures { MatchOption result (GoesOnNoMore bytes.now level last) (GoesOn bytes.now level last) }
+{
+    let Some(entry) = entry_at(bytes, level, last.end) else {
+        return None;
+    };
+    let before = &bytes[last.key_at..last.value_at];
+    if !comes_before(before, &bytes[entry.key_at..entry.value_at]) {
+        return None;
+    }
+    Some(entry)
 }
 
 // The entry where a span says, if there is one.

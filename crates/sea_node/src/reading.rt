@@ -74,9 +74,10 @@ pub struct Span {
 }
 
 /// Where the parts of the entry that stands at a place are.
+#[inline(always)]
 pub fn span_at(bytes: &[u8], at: usize) -> Option<Span>
     requires block { length bytes.now ≡ BLOCK_BYTES }
-    requires within { at < BLOCK_BYTES }
+    requires within { at ≤ BLOCK_BYTES }
     ensures { MatchOption result (BeginsWithNoEntry (drop at bytes.now)) (SpansAt bytes.now at) }
 {
     let key_at = at + 3;

@@ -1,39 +1,30 @@
-use Rattle.std.proofs.Common.{◌≡◌, ℕ, List, ◌≤◌, length, Option, Some, refl, sym, ap, subst, ◌∙◌, arith}
+use Rattle.std.proofs.Common.{◌≡◌, ℕ, List, ◌≤◌, length, Some, refl, sym, ap, subst, ◌∙◌, arith}
 use Rattle.std.proofs.lemmas.Bool.{false≢true}
 use Rattle.std.proofs.lemmas.Slice.Eq.{bytes_eq-Decides}
-use Rattle.sea_node.specs.declared.reading.Span.{Span}
 use Rattle.sea_node.specs.Reading.{key_in}
-use Rattle.sea_node.specs.Lookup.{front_key, EndsAt, keyed}
-use Rattle.sea_node.proofs.Lookups.{not_none, one_alone, several, some_there}
+use Rattle.sea_node.specs.Lookup.{front_key, EndsAt}
+use Rattle.sea_node.proofs.Lookups.{one_alone, several, some_there}
 use Rattle.sea_node.proofs.lookup.Passed.told.Goals as goal
 use Rattle.sea_node.proofs.lookup.Passed.told.Goals.{else-level-gt0-via-then-level-gt0+else-eq, else-level-gt0-via-else-level-gt0}
-
-pub returns-in_default-clause-none : goal.returns-in_default-clause-none
-returns-in_default-clause-none c = λ key es rising passes enough.
-    (not_none es enough.0).0 (sym (ap (keyed c.args.block.now) c.in_default.is) ∙ passes.first_is)
-
-pub returns-in_default-last-clause-none : goal.returns-in_default-last-clause-none
-returns-in_default-last-clause-none c = λ key es rising passes enough.
-    (not_none es enough.0).1 (subst (λ (l : Option Span). EndsAt es (keyed c.args.block.now l)) c.in_default-last.is passes.last_is)
 
 pub returns-then-eq-clause-none : goal.returns-then-eq-clause-none
 returns-then-eq-clause-none c = λ key es rising passes enough.
     let block = c.args.block.now in
-    let start = c.in-Some.start in
-    let end = c.in-Some-last.end in
+    let start = c.args.self.first in
+    let end = c.args.self.last in
     let same = (bytes_eq-Decides (key_in c.bytes-bytes.result.now start) (key_in c.bytes-bytes.result.now end)).0 (sym c.eq.ensures ∙ c.if-eq.true) in
     let alike : key_in block start ≡ key_in block end = subst (λ (b : List ℕ). key_in b start ≡ key_in b end) c.bytes-bytes.ensures.bytes same in
-    let first : Some (key_in block start) ≡ front_key es = sym (ap (keyed block) c.in-Some.is) ∙ passes.first_is in
-    let last = subst (EndsAt es) (ap (keyed block) c.in-Some-last.is ∙ ap Some (sym alike)) passes.last_is in
+    let first : Some (key_in block start) ≡ front_key es = passes.first_is in
+    let last = subst (EndsAt es) (ap Some (sym alike)) passes.last_is in
     one_alone es (key_in block start) rising first last (enough.1 c.if-level-gt0.true)
 
 pub returns-clause-some : goal.returns-clause-some
 returns-clause-some c = λ key es rising passes.
     let block = c.args.block.now in
-    let start = c.in-Some.start in
-    let end = c.in-Some-last.end in
-    let first : Some (key_in block start) ≡ front_key es = sym (ap (keyed block) c.in-Some.is) ∙ passes.first_is in
-    let last : EndsAt es (Some (key_in block end)) = subst (EndsAt es) (ap (keyed block) c.in-Some-last.is) passes.last_is in
+    let start = c.args.self.first in
+    let end = c.args.self.last in
+    let first : Some (key_in block start) ≡ front_key es = passes.first_is in
+    let last : EndsAt es (Some (key_in block end)) = passes.last_is in
     let enough : 1 ≤ c.args.level → 2 ≤ length es =
     elim c.else-level-gt0.branch [
       | else-level-gt0-via-then-level-gt0+else-eq w ↦ λ above. several es (key_in block start) (key_in block end) first last (λ same.
