@@ -140,7 +140,7 @@ below_all_told : (key : List ℕ) (es : List Entry) → below_all key_order key 
 below_all_told key [] h = tt
 below_all_told key (e ∷ es) h = (is_less _ (first_of_both _ _ h), below_all_told key es (second_of_both _ _ h))
 
-below_all_shown : (key : List ℕ) (es : List Entry) → IsBelowAll key es → below_all key_order key es ≡ true
+pub below_all_shown : (key : List ℕ) (es : List Entry) → IsBelowAll key es → below_all key_order key es ≡ true
 below_all_shown key [] h = refl
 below_all_shown key (e ∷ es) h = both _ _ (ap is_lt h.0) (below_all_shown key es h.1)
 

@@ -1,3 +1,4 @@
+pub mod BlockEdits
 pub mod Edits
 pub mod EntryBytes
 pub mod Keys

@@ -1,12 +1,12 @@
 -- What the entries of a node tell of a key, taken one after the other.
-use Rattle.std.proofs.Common.{◌≡◌, ◌≢◌, ℕ, ◌≤◌, List, [], ◌∷◌, ◌++◌, length, drop, ◌+◌, Option, Some, None, true, false, refl, sym, ap, subst, ◌∙◌, arith, append_assoc, length-append, length-drop}
+use Rattle.std.proofs.Common.{◌≡◌, ◌≢◌, ℕ, ◌≤◌, List, [], ◌∷◌, ◌++◌, length, drop, ◌+◌, Option, Some, None, false, refl, sym, ap, subst, ◌∙◌, arith, append_assoc, length-append, length-drop}
 use Rattle.std.specs.List.{AllByRecursion}
-use Rattle.std.specs.Option.{is_some, is_none}
-use Rattle.std.proofs.lemmas.Bool.{false≢true, true≢false}
+use Rattle.std.specs.Option.{is_none}
+use Rattle.std.proofs.lemmas.Bool.{true≢false}
 use Rattle.sea_node.specs.Entries.{Entry, IsBelow, IsNotAbove, IsRising, entry_bytes, entry_size, size}
 use Rattle.sea_node.specs.declared.reading.Span.{Span}
-use Rattle.sea_node.specs.Reading.{StandsAt}
-use Rattle.sea_node.specs.Lookup.{front_key, EndsAt, AreAbove, Finds, keyed}
+use Rattle.sea_node.specs.Reading.{StandsAt, key_in, entry_in}
+use Rattle.sea_node.specs.Lookup.{front_key, EndsAt, AreAbove, Finds, FindsAt, keyed, entered}
 use Rattle.sea_node.proofs.Nodes.{size-append, size-one, length-entry_bytes}
 use Rattle.sea_node.proofs.Keys.{IsBelow-trans, not_below_itself, IsBelowAll, AreBelow, IsBelowAll-append, IsRising-one, IsRising-head, IsRising-tail, IsRising-append, IsRising-split}
 
@@ -38,10 +38,6 @@ pub first_still : (es : List Entry) (e : Entry) (first : List ℕ) → Some firs
 first_still [] e first is = absurd (cc)
 first_still (x ∷ es) e first is = is
 
-pub is_keyed : (bytes : List ℕ) (span : Option Span) → is_none span ≡ false → is_some (keyed bytes span) ≡ true
-is_keyed bytes None some = absurd (true≢false some)
-is_keyed bytes (Some span) some = refl
-
 -- where an entry ends, and one entry more
 pub entry_ends : (bytes : List ℕ) (e : Entry) (at end : ℕ) → length bytes ≡ 4096 → at ≤ 4096 → StandsAt bytes at e end → end ≡ at + entry_size e
 entry_ends bytes e at end len within stands =
@@ -54,33 +50,39 @@ no_first : (es : List Entry) → None ≡ front_key es → es ≡ []
 no_first [] none = refl
 no_first (x ∷ es) none = absurd (cc)
 
-pub finds_found : (key : List ℕ) (es : List Entry) (e : Entry) → IsNotAbove e.0 key → Finds key (es ++ e ∷ []) (Some e) None
-finds_found key es e le = (es, [], refl, le, tt, refl)
+pub finds_found : (bytes key : List ℕ) (es : List Entry) (span : Span) → IsNotAbove (key_in bytes span) key → span.end ≡ 32 + size (es ++ entry_in bytes span ∷ []) → FindsAt bytes key (es ++ entry_in bytes span ∷ []) (Some span) None
+finds_found bytes key es span le ends = (es, [], refl, ends, le, tt, refl)
 
-pub finds_next : (key : List ℕ) (es : List Entry) (e : Entry) (found : Option Entry) → Finds key es found None → IsBelow key e.0 → Finds key (es ++ e ∷ []) found (Some e.0)
-finds_next key es e None (above, none) below =
-    subst (λ (fs : List Entry). Finds key (fs ++ e ∷ []) None (Some e.0)) (sym (no_first es none)) ((below, tt), refl)
-finds_next key es e (Some x) (before, after, split, le, above, none) below =
-    let whole : es ++ e ∷ [] ≡ before ++ x ∷ e ∷ [] =
-    ap (λ (fs : List Entry). fs ++ e ∷ []) (split ∙ ap (λ (fs : List Entry). before ++ x ∷ fs) (no_first after none)) ∙ append_assoc before (x ∷ []) (e ∷ []) in
-    (before, e ∷ [], whole, le, (below, tt), refl)
+pub finds_next : (bytes key : List ℕ) (es : List Entry) (found : Option Span) (span : Span) → FindsAt bytes key es found None → IsBelow key (key_in bytes span) → FindsAt bytes key (es ++ entry_in bytes span ∷ []) found (Some span)
+finds_next bytes key es None span (above, none) below =
+    subst (λ (fs : List Entry). FindsAt bytes key (fs ++ entry_in bytes span ∷ []) None (Some span)) (sym (no_first es none)) ((below, tt), refl)
+finds_next bytes key es (Some x) span (before, after, split, ends, le, above, none) below =
+    let e = entry_in bytes span in
+    let whole : es ++ e ∷ [] ≡ before ++ entry_in bytes x ∷ e ∷ [] =
+    ap (λ (fs : List Entry). fs ++ e ∷ []) (split ∙ ap (λ (fs : List Entry). before ++ entry_in bytes x ∷ fs) (no_first after none)) ∙ append_assoc before (entry_in bytes x ∷ []) (e ∷ []) in
+    (before, e ∷ [], whole, ends, le, (below, tt), refl)
 
 above_more : (key : List ℕ) (es : List Entry) (e : Entry) (next : List ℕ) → AreBelow es (e ∷ []) → AreAbove key es → Some next ≡ front_key es → AreAbove key (es ++ e ∷ []) × (Some next ≡ front_key (es ++ e ∷ []))
 above_more key [] e next below above is = absurd (cc)
 above_more key (x ∷ es) e next below above is =
     (IsBelowAll-append key (x ∷ es) (e ∷ []) above (IsBelow-trans key x.0 e.0 above.0 below.0.0, tt), is)
 
-pub finds_kept : (key : List ℕ) (es : List Entry) (e : Entry) (found : Option Entry) (next : List ℕ) → IsRising (es ++ e ∷ []) → Finds key es found (Some next) → Finds key (es ++ e ∷ []) found (Some next)
-finds_kept key es e None next rising (above, is) = above_more key es e next (IsRising-split es (e ∷ []) rising).2 above is
-finds_kept key es e (Some x) next rising (before, after, split, le, above, is) =
+finds_kept : (bytes key : List ℕ) (es : List Entry) (e : Entry) (found : Option Span) (next : Span) → IsRising (es ++ e ∷ []) → FindsAt bytes key es found (Some next) → FindsAt bytes key (es ++ e ∷ []) found (Some next)
+finds_kept bytes key es e None next rising (above, is) = above_more key es e (key_in bytes next) (IsRising-split es (e ∷ []) rising).2 above is
+finds_kept bytes key es e (Some x) next rising (before, after, split, ends, le, above, is) =
     let below = subst (λ (fs : List Entry). AreBelow fs (e ∷ [])) split (IsRising-split es (e ∷ []) rising).2 in
-    let more = above_more key after e next (all_behind (λ (d : Entry). IsBelowAll d.0 (e ∷ [])) (before ++ x ∷ []) after (subst (λ (fs : List Entry). AreBelow fs (e ∷ [])) (sym (append_assoc before (x ∷ []) after)) below)) above is in
-    (before, after ++ e ∷ [], ap (λ (fs : List Entry). fs ++ e ∷ []) split ∙ append_assoc before (x ∷ after) (e ∷ []), le, more.0, more.1)
+    let more = above_more key after e (key_in bytes next) (all_behind (λ (d : Entry). IsBelowAll d.0 (e ∷ [])) (before ++ entry_in bytes x ∷ []) after (subst (λ (fs : List Entry). AreBelow fs (e ∷ [])) (sym (append_assoc before (entry_in bytes x ∷ []) after)) below)) above is in
+    (before, after ++ e ∷ [], ap (λ (fs : List Entry). fs ++ e ∷ []) split ∙ append_assoc before (entry_in bytes x ∷ after) (e ∷ []), ends, le, more.0, more.1)
 
 -- once a key above was met, what is found stays
-pub finds_still : (key : List ℕ) (es : List Entry) (e : Entry) (found : Option Entry) (next : Option (List ℕ)) → is_some next ≡ true → IsRising (es ++ e ∷ []) → Finds key es found next → Finds key (es ++ e ∷ []) found next
-finds_still key es e found None is rising finds = absurd (false≢true is)
-finds_still key es e found (Some next) is rising finds = finds_kept key es e found next rising finds
+pub finds_still : (bytes key : List ℕ) (es : List Entry) (e : Entry) (found next : Option Span) → is_none next ≡ false → IsRising (es ++ e ∷ []) → FindsAt bytes key es found next → FindsAt bytes key (es ++ e ∷ []) found next
+finds_still bytes key es e found None some rising finds = absurd (true≢false some)
+finds_still bytes key es e found (Some next) some rising finds = finds_kept bytes key es e found next rising finds
+
+-- what is found, without where it stands
+pub finds_told : (bytes key : List ℕ) (es : List Entry) (found next : Option Span) → FindsAt bytes key es found next → Finds key es (entered bytes found) (keyed bytes next)
+finds_told bytes key es None next finds = finds
+finds_told bytes key es (Some x) next (before, after, split, ends, le, above, is) = (before, after, split, le, above, is)
 
 -- ---- what entries for a node tell
 

@@ -9,7 +9,7 @@ use Rattle.sea_node.specs.declared.lookup.Passed.{Passed}
 use Rattle.sea_node.specs.Entries.{Entry, IsBelow, IsRising, size, entry_bytes, entries_bytes}
 use Rattle.sea_node.specs.Node.{IsNode, Spells}
 use Rattle.sea_node.specs.Reading.{IsEntry, BeginsAtLevel, BeginsWithEntry, SpansAt, key_in, entry_in}
-use Rattle.sea_node.specs.Lookup.{keyed, entered, Finds, Passes, HasValueOf, IsBegun, IsRead, HasEntry, HasNoEntry, GoesOn, GoesOnNoMore, IsEnough}
+use Rattle.sea_node.specs.Lookup.{FindsAt, Passes, HasValueOf, IsBegun, IsRead, HasEntry, HasNoEntry, GoesOn, GoesOnNoMore, IsEnough}
 use Rattle.sea_node.proofs.Nodes.{same_entry}
 use Rattle.sea_node.proofs.Keys.{IsRising-one, IsRising-split}
 use Rattle.sea_node.proofs.ReadNodes.{more_read, same_front, ends_clean, room_of, same_level, spelled_entries, node_read, only_read}
@@ -37,7 +37,7 @@ module _ (block : List ℕ) (len : length block ≡ 4096) (level : ℕ) where
       let one = more_read (drop 32 block) (drop 32 block) (drop span.end block) [] (e ∷ []) e refl tt refl has.0.1.1 in
       record { all = one.0; values = (has.1, tt); rising = IsRising-one e; read = one.1 }
 
-  pub first_passes : (key : List ℕ) (span : Span) (found next : Option Span) → HasEntry block level 32 span → Finds key (entry_in block span ∷ []) (entered block found) (keyed block next)
+  pub first_passes : (key : List ℕ) (span : Span) (found next : Option Span) → HasEntry block level 32 span → FindsAt block key (entry_in block span ∷ []) found next
       → Passes block key (entry_in block span ∷ []) (record { first = span; last = span; found = found; next = next })
   first_passes key span found next has finds = record {
     end_is = ends_more block [] (entry_in block span) 32 span.end len (omega arith) refl has.0.1;
@@ -57,7 +57,7 @@ module _ (block : List ℕ) (len : length block ≡ 4096) (level : ℕ) where
           let more = more_read (drop 32 block) (drop passed.last.end block) (drop span.end block) es (es ++ e ∷ []) e refl begun.all begun.read on.0.0.1.1 in
           record { all = more.0; values = all_more (HasValueOf level) es e begun.values on.0.1; rising = rises_on; read = more.1 }
 
-      pub passes_more : (found next : Option Span) → Finds key (es ++ entry_in block span ∷ []) (entered block found) (keyed block next)
+      pub passes_more : (found next : Option Span) → FindsAt block key (es ++ entry_in block span ∷ []) found next
           → Passes block key (es ++ entry_in block span ∷ []) (record { first = passed.first; last = span; found = found; next = next })
       passes_more found next finds = record {
         end_is = ends_more block es (entry_in block span) passed.last.end span.end len within passes.end_is on.0.0.1;

@@ -1,3 +1,4 @@
+pub mod BlockEdit
 pub mod Entries
 pub mod Lookup
 pub mod Node

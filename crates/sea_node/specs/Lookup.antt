@@ -59,13 +59,24 @@ pub record HasSpans (bytes : List ℕ) (passed : Passed) : Type 0 where
   pub found_is : IsSpanIf bytes passed.found
   pub next_is : IsSpanIf bytes passed.next
 
+-- The same as what is found, by where it stands: with where the entry ends that is found.
+abbrev pub FindsAt : List ℕ → List ℕ → List Entry → Option Span → Option Span → Type 0
+FindsAt bytes key entries None next =
+    AreAbove key entries × (keyed bytes next ≡ front_key entries)
+FindsAt bytes key entries (Some found) next =
+    (before : List Entry) × (after : List Entry)
+    × (entries ≡ before ++ entry_in bytes found ∷ after)
+    × (found.end ≡ 32 + size (before ++ entry_in bytes found ∷ []))
+    × IsNotAbove (key_in bytes found) key × AreAbove key after
+    × (keyed bytes next ≡ front_key after)
+
 -- what some entries of a node tell of a key
 pub record Passes (bytes : List ℕ) (key : List ℕ) (entries : List Entry)
     (passed : Passed) : Type 0 where
   pub end_is : passed.last.end ≡ 32 + size entries
   pub first_is : Some (key_in bytes passed.first) ≡ front_key entries
   pub last_is : EndsAt entries (Some (key_in bytes passed.last))
-  pub finds : Finds key entries (entered bytes passed.found) (keyed bytes passed.next)
+  pub finds : FindsAt bytes key entries passed.found passed.next
 
 -- the value of an entry may stand in a node of a level
 abbrev pub HasValueOf : ℕ → Entry → Type 0

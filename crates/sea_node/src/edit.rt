@@ -17,11 +17,11 @@ mod tests;
 
 // Where a key stands among the entries.
 #[derive(Drop)]
-struct Place {
+pub(crate) struct Place {
     // The bytes of the entries before it.
-    before: usize,
+    pub before: usize,
     // The bytes of its own entry, or 0.
-    size: usize,
+    pub size: usize,
 }
 
 impl Node {
@@ -75,7 +75,7 @@ impl Node {
 }
 
 // The bytes of the entry that comes in, if one does.
-fn bytes_put(alloc: Global, key: &Key, value: Option<&Data>) -> Result<Data, NoMemory>
+pub(crate) fn bytes_put(alloc: Global, key: &Key, value: Option<&Data>) -> Result<Data, NoMemory>
     requires { IfSome (option_copied value) (λ value. length value < 2 ^ 16) }
     ensures { IfOk result (λ put. put ≡ entry_put key.now (option_copied value.entry)) }
 {

@@ -1,5 +1,5 @@
 //! A key looked up in a node in place, with no list of the node's entries.
-ghost use Rattle.std.specs.Prelude.{◌≡◌, ℕ, ◌≤◌, List, IfOk, IfSome, IfNone, MatchOption, length};
+ghost use Rattle.std.specs.Prelude.{◌≡◌, ℕ, ◌≤◌, ◌↔◌, List, IfOk, IfSome, IfNone, IsTrue, MatchOption, length};
 ghost use Rattle.sea_node.specs.Entries.{Entry, IsRising};
 ghost use Rattle.sea_node.specs.Node.{Spells};
 ghost use Rattle.sea_node.specs.Reading.{BeginsAtLevel, IsSpan, key_in, entry_in};
@@ -30,13 +30,13 @@ pub struct Lookup {
 
 // Where the entries of a block stand that tell of a key.
 #[derive(Clone, Copy)]
-struct Passed {
-    first: Span,
-    last: Span,
+pub(crate) struct Passed {
+    pub first: Span,
+    pub last: Span,
     // The last entry whose key is not above the key.
-    found: Option<Span>,
+    pub found: Option<Span>,
     // The first entry whose key is above the key.
-    next: Option<Span>,
+    pub next: Option<Span>,
 }
 
 impl Node {
@@ -49,17 +49,34 @@ impl Node {
             IfNone found
             ((level : ℕ) (entries : List Entry) → Spells block.now level entries → ⊥)) }
     {
-        let Some(level) = read_level(block) else {
+        let Some((level, passed)) = Passed::of(block, key) else {
             return Ok(None);
         };
-        let Some(passed) = Passed::through(block.bytes(), level, key.bytes()) else {
-            return Ok(None);
-        };
-        passed.told(block, level)
+        Ok(Some(passed.told(block, level)?))
     }
 }
 
 impl Passed {
+    /// What the node that a block spells tells of a key, with its level, if the block spells one.
+    pub fn of(block: &Block, key: &Key) -> Option<(u32, Passed)>
+        ensures some { IfSome result (λ found. (entries : List Entry)
+            × Spells block.now found.0 entries × Passes block.now key.now entries found.1) }
+        ensures spans { IfSome result (λ found. HasSpans block.now found.1) }
+        ensures none { IfNone result
+            ((level : ℕ) (entries : List Entry) → Spells block.now level entries → ⊥) }
+    {
+        let Some(level) = read_level(block) else {
+            return None;
+        };
+        let Some(passed) = Passed::through(block.bytes(), level, key.bytes()) else {
+            return None;
+        };
+        if !passed.is_enough(block.bytes(), level) {
+            return None;
+        }
+        Some((level, passed))
+    }
+
     // What all entries of a block tell, if they may stand in a node of a level.
     fn through(bytes: &[u8], level: u32, key: &[u8]) -> Option<Passed>
         requires block { length bytes.now ≡ BLOCK_BYTES }
@@ -83,6 +100,7 @@ impl Passed {
     }
 
     // What the entries from the first one on tell, up to one above the key or to the last.
+    #[inline(never)]
     fn seek(bytes: &[u8], level: u32, first: Span, key: &[u8]) -> Passed
         requires block { length bytes.now ≡ BLOCK_BYTES }
         requires first { HasEntry bytes.now level FRONT_BYTES first }
@@ -121,6 +139,7 @@ impl Passed {
     }
 
     // The same with all entries behind, where those so far go up to one above the key.
+    #[inline(never)]
     fn to_end(self, bytes: &[u8], level: u32) -> Passed
         requires block { length bytes.now ≡ BLOCK_BYTES }
         requires spans { HasSpans bytes.now self }
@@ -142,35 +161,36 @@ impl Passed {
         Passed { last, ..self }
     }
 
-    // What a node of a level with these entries tells, if they are enough for one.
-    fn told(self, block: &Block, level: u32) -> Result<Option<Lookup>, NoMemory>
-        requires { HasSpans block.now self }
-        ensures some { IfOk result (λ found.
-            IfSome found (λ lookup. (key : List ℕ) (entries : List Entry)
-            → IsRising entries → Passes block.now key entries self
-            → (lookup.level ≡ level) × IsEnough level entries × Tells key entries lookup)) }
-        ensures none { IfOk result (λ found. IfNone found ((key : List ℕ) (entries : List Entry)
-            → IsRising entries → Passes block.now key entries self → IsEnough level entries → ⊥)) }
+    // Whether the entries are enough for a node of a level.
+    fn is_enough(&self, bytes: &[u8], level: u32) -> bool
+        requires block { length bytes.now ≡ BLOCK_BYTES }
+        requires spans { HasSpans bytes.now self.now }
+        ensures { (key : List ℕ) (entries : List Entry) → IsRising entries
+            → Passes bytes.now key entries self.now → IsTrue result ↔ IsEnough level entries }
     {
-        let Passed {
-            first,
-            last,
-            found,
-            next,
-        } = self;
-        let bytes = block.bytes();
+        let first = &bytes[self.first.key_at..self.first.value_at];
         // The only entry of a node is its first and its last.
-        if level > 0 && &bytes[first.key_at..first.value_at] == &bytes[last.key_at..last.value_at] {
-            return Ok(None);
+        if level > 0 && first == &bytes[self.last.key_at..self.last.value_at] {
+            return false;
         }
-        Ok(Some(Lookup {
+        true
+    }
+
+    // What a node of a level with these entries tells.
+    fn told(self, block: &Block, level: u32) -> Result<Lookup, NoMemory>
+        requires { HasSpans block.now self }
+        ensures level { IfOk result (λ lookup. lookup.level ≡ level) }
+        ensures tells { IfOk result (λ lookup. (key : List ℕ) (entries : List Entry)
+            → Passes block.now key entries self → Tells key entries lookup) }
+    {
+        Ok(Lookup {
             level,
-            size: last.end - FRONT_BYTES,
-            first: share_key(block, first)?,
-            last: share_key(block, last)?,
-            found: share_found(block, found)?,
-            next: share_next(block, next)?,
-        }))
+            size: self.last.end - FRONT_BYTES,
+            first: share_key(block, self.first)?,
+            last: share_key(block, self.last)?,
+            found: share_found(block, self.found)?,
+            next: share_next(block, self.next)?,
+        })
     }
 }
 

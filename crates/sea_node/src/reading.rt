@@ -14,6 +14,9 @@ const LEVEL_AT: usize = 4;
 
 const LEVELS: u8 = 8;
 
+/// How many bytes the lengths of an entry's key and value take.
+pub(crate) const LENGTHS_BYTES: usize = 3;
+
 /// How many bytes a value has at most.
 pub const VALUE_BYTES: usize = 1024;
 
@@ -80,7 +83,7 @@ pub fn span_at(bytes: &[u8], at: usize) -> Option<Span>
     requires within { at ≤ BLOCK_BYTES }
     ensures { MatchOption result (BeginsWithNoEntry (drop at bytes.now)) (SpansAt bytes.now at) }
 {
-    let key_at = at + 3;
+    let key_at = at + LENGTHS_BYTES;
     if key_at > BLOCK_BYTES {
         return None;
     }

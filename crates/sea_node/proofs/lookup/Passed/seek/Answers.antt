@@ -3,7 +3,7 @@ use Rattle.std.proofs.lemmas.Bool.{false≢true}
 use Rattle.sea_node.specs.declared.lookup.Passed.{Passed}
 use Rattle.sea_node.specs.Reading.{entry_in}
 use Rattle.sea_node.proofs.Keys.{IsNotAbove-not_below}
-use Rattle.sea_node.proofs.Lookups.{entry_ends, finds_found, finds_next}
+use Rattle.sea_node.proofs.Lookups.{entry_ends, ends_more, finds_found, finds_next}
 use Rattle.sea_node.proofs.ReadLookups.{first_begun, first_passes, begun_more, passes_more}
 use Rattle.sea_node.proofs.lookup.Passed.seek.Goals as goal
 
@@ -38,7 +38,7 @@ seek-init c =
     let e = entry_in bytes first in
     let le = IsNotAbove-not_below e.0 c.args.key.now (λ below. false≢true (c.if-comes_before.ensures.1 below)) in
     record {
-      passed = (e ∷ [], first_begun bytes len c.args.level first has, first_passes bytes len c.args.level c.args.key.now first (Some first) None has (finds_found c.args.key.now [] e le));
+      passed = (e ∷ [], first_begun bytes len c.args.level first has, first_passes bytes len c.args.level c.args.key.now first (Some first) None has (finds_found bytes c.args.key.now [] first le (ends_more bytes [] e 32 first.end len (omega arith) refl has.0.1)));
       front = omega (arith, entry_ends bytes e 32 first.end len (omega arith) has.0.1);
       last = has.0.0;
     }
@@ -57,7 +57,7 @@ returns-then-comes_before-2-clause-passed c =
     let below = c.if-comes_before-2.ensures.0 refl in (
       was.0 ++ e ∷ [],
       begun_more bytes len c.args.level was.0 c.args.key.now so_far was.1 was.2 within entry on,
-      passes_more bytes len c.args.level was.0 c.args.key.now so_far was.1 was.2 within entry on (Some last) (Some entry) (finds_next c.args.key.now was.0 e (Some (entry_in bytes last)) was.2.finds below),
+      passes_more bytes len c.args.level was.0 c.args.key.now so_far was.1 was.2 within entry on (Some last) (Some entry) (finds_next bytes c.args.key.now was.0 (Some last) entry was.2.finds below),
     )
 
 pub returns-then-comes_before-2-clause-spans : goal.returns-then-comes_before-2-clause-spans
@@ -97,7 +97,7 @@ seek-preserved c =
       passed = (
         was.0 ++ e ∷ [],
         begun_more bytes len c.args.level was.0 c.args.key.now so_far was.1 was.2 within entry on,
-        passes_more bytes len c.args.level was.0 c.args.key.now so_far was.1 was.2 within entry on (Some entry) None (finds_found c.args.key.now was.0 e le),
+        passes_more bytes len c.args.level was.0 c.args.key.now so_far was.1 was.2 within entry on (Some entry) None (finds_found bytes c.args.key.now was.0 entry le (ends_more bytes was.0 e last.end entry.end len within was.2.end_is on.0.0.1)),
       );
       front = omega (arith, entry_ends bytes e last.end entry.end len within on.0.0.1, c.seek.invariant.front);
       last = on.0.0.0;

@@ -1,8 +1,7 @@
 use Rattle.std.proofs.Common.{[], ◌∷◌, ◌++◌, arith, rules}
 use Rattle.sea_node.specs.declared.lookup.Passed.{Passed}
 use Rattle.sea_node.specs.Reading.{entry_in}
-use Rattle.sea_node.specs.Lookup.{keyed, entered}
-use Rattle.sea_node.proofs.Lookups.{entry_ends, finds_still, is_keyed}
+use Rattle.sea_node.proofs.Lookups.{entry_ends, finds_still}
 use Rattle.sea_node.proofs.ReadLookups.{rises_on, begun_more, passes_more}
 use Rattle.sea_node.proofs.lookup.Passed.to_end.Goals as goal
 
@@ -31,7 +30,7 @@ rest-preserved c =
             was.0 ++ e ∷ [],
             begun_more bytes len level was.0 key so_far was.1 was.2 within entry on,
             passes_more bytes len level was.0 key so_far was.1 was.2 within entry on self.found self.next
-                (finds_still key was.0 e (entered bytes self.found) (keyed bytes self.next) (is_keyed bytes self.next (first_of (cc, search rules))) (rises_on bytes len level was.0 key so_far was.1 was.2 within entry on) was.2.finds),
+                (finds_still bytes key was.0 e self.found self.next (first_of (cc, search rules)) (rises_on bytes len level was.0 key so_far was.1 was.2 within entry on) was.2.finds),
           );
       front = omega (arith, entry_ends bytes e c.rest.last.end entry.end len within on.0.0.1, c.rest.invariant.front);
       last = on.0.0.0;
