@@ -47,22 +47,25 @@ pub record TailAhead (image : List ℕ) (block : ℕ) : Type 0 where
   pub ahead : newest.header.seq < newest.last.tail.seq
   pub at : block ≡ newest.last.tail.place.0
 
--- Of all segments from the tail's on, a closed one ends at the block, and the next doesn't go on from
--- it; those before do.
+-- Of these segments, one ends at the block, and the next doesn't go on from it; those before do.
+pub record IsBreak (parts : List Part) (block : ℕ) : Type 0 where
+  pub front : List Part
+  pub part : Part
+  pub next : Part
+  pub back : List Part
+  pub cut : parts ≡ front ++ part ∷ next ∷ back
+  pub linked : AreLinked (front ++ part ∷ [])
+  pub broken : Follows part.last next.header → ⊥
+  pub at : block ≡ part.end.0
+
+-- Such a break stands among the segments from the tail's on.
 pub record IsTorn (image : List ℕ) (block : ℕ) : Type 0 where
   pub segments : ℕ
   pub newest : Part
   pub is_open : IsOpen image segments newest
   pub closed : List Part
   pub are_closed : AreClosed image segments newest closed
-  pub front : List Part
-  pub part : Part
-  pub next : Part
-  pub back : List Part
-  pub cut : closed ++ newest ∷ [] ≡ front ++ part ∷ next ∷ back
-  pub linked : AreLinked (front ++ part ∷ [])
-  pub broken : Follows part.last next.header → ⊥
-  pub at : block ≡ part.end.0
+  pub first_break : IsBreak (closed ++ newest ∷ []) block
 
 -- All go on from one another, and no record is at the tail's place, nor the end of its segment's chain.
 pub record TailAstray (image : List ℕ) (block : ℕ) : Type 0 where

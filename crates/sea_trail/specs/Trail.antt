@@ -33,10 +33,14 @@ body_of image segment = slice_range image (4096 * first_block segment) (4096 * s
 
 -- ---- superblock and headers
 
--- The image has a superblock, of this format.
-pub record HasSuper (image : List ℕ) (format segments : ℕ) : Type 0 where
-  pub spells : SpellsAnySuper (block_of image 0) format segments
+-- The block is a superblock of this format. One of format 1 has 6 to 8,191 segments.
+pub record IsSuper (block : List ℕ) (format segments : ℕ) : Type 0 where
+  pub spells : SpellsAnySuper block format segments
   pub count : format ≡ 1 → IsSegmentCount segments
+
+-- and the first block of an image is one
+abbrev pub HasSuper : List ℕ → ℕ → ℕ → Type 0
+HasSuper image format segments = IsSuper (block_of image 0) format segments
 
 abbrev pub blocks_in : List ℕ → ℕ
 blocks_in image = length image / 4096

@@ -1,0 +1,4 @@
+pub mod Chains
+pub mod Joined
+pub mod Reading
+pub mod Surveys
