@@ -1,4 +1,8 @@
 pub mod Chains
+pub mod Growth
 pub mod Joined
-pub mod Reading
+pub mod Places
 pub mod Surveys
+pub mod Telling
+pub mod Told
+pub mod Unique

@@ -1,8 +1,9 @@
 -- Headers found one after the other, and looked up by their numbers.
-use Rattle.std.proofs.Common.{◌≡◌, ℕ, ◌+◌, ◌<◌, ◌≤◌, ◌⊎◌, Bool, true, false, cond, List, [], ◌∷◌, ◌++◌, Option, Some, None, refl, sym, ap, ◌∙◌, subst, inl, inr, arith}
+use Rattle.std.proofs.Common.{◌≡◌, ℕ, suc, ◌+◌, ◌<◌, ◌≤◌, ◌⊎◌, Bool, true, false, cond, List, [], ◌∷◌, ◌++◌, length, get_or, drop, drop-cons, Option, Some, None, refl, sym, ap, ◌∙◌, subst, inl, inr, arith}
 use Rattle.std.specs.Prelude.{◌==◌, map}
 use Rattle.std.specs.List.{find}
-use Rattle.std.proofs.lemmas.Bool.{cases_lt, cases_eq, eqb-true, eqb-false}
+use Rattle.std.proofs.lemmas.Bool.{cases_lt, cases_eq, eqb-true, eqb-false, eq-eqb, ne_eqb}
+use Rattle.std.proofs.lemmas.List.{drop_all}
 use Rattle.sea_segment.specs.Header.{SpellsHeader}
 use Rattle.sea_segment.specs.declared.header.Header.{Header}
 use Rattle.sea_segment.proofs.Headers.{same_header}
@@ -133,47 +134,52 @@ not_before image from to f fs k found low stands le =
       | inr ge ↦ (let named : k.segment ≡ f.header.segment = omega arith in same_header (block_of image (header_block f.header.segment)) k f.header (at_stands image f.header.segment k named stands) found.2)
     ]
 
+some_by_test : (image : List ℕ) (from to seq : ℕ) (g : Found) (gs : List Found) (f : Found) → AreFound image from to (g ∷ gs) → (with_number seq gs ≡ Some f → IsFirstNumbered image (g.header.segment + 1) to seq f)
+    → (b : Bool) → (g.header.seq == seq) ≡ b → cond b (Some g) (with_number seq gs) ≡ Some f → IsFirstNumbered image from to seq f
+some_by_test image from to seq g gs f found later true is e =
+    let same : g ≡ f = cc in
+    subst (IsFirstNumbered image from to seq) same (record {
+      within = found.1;
+      stands = found.2;
+      link = found.3;
+      number = eqb-true g.header.seq seq is;
+      least = λ k low high stands number. elim (cases_lt k.segment g.header.segment) [
+        | inl lt ↦ absurd (found.4 k low lt stands)
+        | inr ge ↦ ge
+      ];
+    })
+some_by_test image from to seq g gs f found later false is e =
+    let rest = later e in
+    record {
+      within = rest.within;
+      stands = rest.stands;
+      link = rest.link;
+      number = rest.number;
+      least = λ k low high stands number. elim (cases_lt g.header.segment k.segment) [
+        | inl lt ↦ rest.least k (omega arith) high stands number
+        | inr le ↦ absurd (eqb-false g.header.seq seq is (sym (ap (λ (h : Header). h.seq) (not_before image from to g gs k found low stands le)) ∙ number))
+      ];
+    }
+
 pub numbered_some : (image : List ℕ) (from to seq : ℕ) (fs : List Found) (f : Found) → AreFound image from to fs → with_number seq fs ≡ Some f → IsFirstNumbered image from to seq f
 numbered_some image from to seq [] f found e = cc
-numbered_some image from to seq (g ∷ gs) f found e = by_test (g.header.seq == seq) refl e
-  where
-    by_test : (b : Bool) → (g.header.seq == seq) ≡ b → cond b (Some g) (with_number seq gs) ≡ Some f → IsFirstNumbered image from to seq f
-    by_test true is e =
-        let same : g ≡ f = cc in
-        subst (IsFirstNumbered image from to seq) same (record {
-          within = found.1;
-          stands = found.2;
-          link = found.3;
-          number = eqb-true g.header.seq seq is;
-          least = λ k low high stands number. elim (cases_lt k.segment g.header.segment) [
-            | inl lt ↦ absurd (found.4 k low lt stands)
-            | inr ge ↦ ge
-          ];
-        })
-    by_test false is e =
-        let rest = numbered_some image (g.header.segment + 1) to seq gs f found.5 e in
-        record {
-          within = rest.within;
-          stands = rest.stands;
-          link = rest.link;
-          number = rest.number;
-          least = λ k low high stands number. elim (cases_lt g.header.segment k.segment) [
-            | inl lt ↦ rest.least k (omega arith) high stands number
-            | inr le ↦ absurd (eqb-false g.header.seq seq is (sym (ap (λ (h : Header). h.seq) (not_before image from to g gs k found low stands le)) ∙ number))
-          ];
-        }
+numbered_some image from to seq (g ∷ gs) f found e =
+    some_by_test image from to seq g gs f found (numbered_some image (g.header.segment + 1) to seq gs f found.5) (g.header.seq == seq) refl e
+
+none_by_test : (image : List ℕ) (from to seq : ℕ) (g : Found) (gs : List Found) (k : Header) → AreFound image from to (g ∷ gs) → from ≤ k.segment → StandsIn image k → k.seq ≡ seq
+    → (with_number seq gs ≡ None → g.header.segment < k.segment → ⊥) → (b : Bool) → (g.header.seq == seq) ≡ b → cond b (Some g) (with_number seq gs) ≡ None → ⊥
+none_by_test image from to seq g gs k found low stands number later true is e = cc
+none_by_test image from to seq g gs k found low stands number later false is e =
+    elim (cases_lt g.header.segment k.segment) [
+      | inl lt ↦ later e lt
+      | inr le ↦ eqb-false g.header.seq seq is (sym (ap (λ (h : Header). h.seq) (not_before image from to g gs k found low stands le)) ∙ number)
+    ]
 
 pub numbered_none : (image : List ℕ) (from to seq : ℕ) (fs : List Found) → AreFound image from to fs → with_number seq fs ≡ None → (k : Header) → from ≤ k.segment → k.segment < to → StandsIn image k → k.seq ≡ seq → ⊥
 numbered_none image from to seq [] none e k low high stands number = none k low high stands
-numbered_none image from to seq (g ∷ gs) found e k low high stands number = by_test (g.header.seq == seq) refl e
-  where
-    by_test : (b : Bool) → (g.header.seq == seq) ≡ b → cond b (Some g) (with_number seq gs) ≡ None → ⊥
-    by_test true is e = cc
-    by_test false is e =
-        elim (cases_lt g.header.segment k.segment) [
-          | inl lt ↦ numbered_none image (g.header.segment + 1) to seq gs found.5 e k (omega arith) high stands number
-          | inr le ↦ eqb-false g.header.seq seq is (sym (ap (λ (h : Header). h.seq) (not_before image from to g gs k found low stands le)) ∙ number)
-        ]
+numbered_none image from to seq (g ∷ gs) found e k low high stands number =
+    none_by_test image from to seq g gs k found low stands number
+    (λ e' lt. numbered_none image (g.header.segment + 1) to seq gs found.5 e' k (omega arith) high stands number) (g.header.seq == seq) refl e
 
 pub IsNumbered-found : (image : List ℕ) (segments seq : ℕ) (fs : List Found) (f : Found) → AreFound image 0 segments fs → with_number seq fs ≡ Some f → IsNumbered image segments seq f.header × (f.link ≡ header_link f.header)
 IsNumbered-found image segments seq fs f found e =
@@ -186,3 +192,23 @@ IsNumbered-found image segments seq fs f found e =
 
 pub none_numbered : (image : List ℕ) (segments seq : ℕ) (fs : List Found) → AreFound image 0 segments fs → with_number seq fs ≡ None → (k : Header) → HasHeader image segments k → k.seq ≡ seq → ⊥
 none_numbered image segments seq fs found e k has number = numbered_none image 0 segments seq fs found e k (omega arith) has.within has.stands number
+
+-- ---- a search for a number, as far as it has come
+
+front_at : (fs : List Found) (i : ℕ) (d : Found) → i < length fs → drop i fs ≡ get_or fs i d ∷ drop (i + 1) fs
+front_at fs i d lt =
+    let next : suc i ≡ i + 1 = omega arith in
+    drop-cons fs i d lt ∙ ap (λ (n : ℕ). get_or fs i d ∷ drop n fs) next
+
+-- one with another number
+pub number_past : (seq : ℕ) (fs : List Found) (i : ℕ) (d : Found) → i < length fs → ((get_or fs i d).header.seq ≡ seq → ⊥) → with_number seq (drop i fs) ≡ with_number seq (drop (i + 1) fs)
+number_past seq fs i d lt other =
+    ap (with_number seq) (front_at fs i d lt) ∙ ap (λ (b : Bool). cond b (Some (get_or fs i d)) (with_number seq (drop (i + 1) fs))) (ne_eqb (get_or fs i d).header.seq seq other)
+
+-- and the one
+pub number_here : (seq : ℕ) (fs : List Found) (i : ℕ) (d : Found) → i < length fs → (get_or fs i d).header.seq ≡ seq → with_number seq (drop i fs) ≡ Some (get_or fs i d)
+number_here seq fs i d lt same =
+    ap (with_number seq) (front_at fs i d lt) ∙ ap (λ (b : Bool). cond b (Some (get_or fs i d)) (with_number seq (drop (i + 1) fs))) (eq-eqb (get_or fs i d).header.seq seq same)
+
+pub number_nowhere : (seq : ℕ) (fs : List Found) (i : ℕ) → length fs ≤ i → with_number seq (drop i fs) ≡ None
+number_nowhere seq fs i ge = ap (with_number seq) (drop_all i fs ge)

@@ -4,6 +4,7 @@
 mod chain;
 mod fault;
 mod joining;
+mod law;
 mod link;
 mod place;
 mod reading;
@@ -13,7 +14,11 @@ mod survey;
 mod trail;
 
 pub use fault::{ImageWhy, ReadFault, ScanFault};
+pub use law::trail_laws;
 pub use link::Link;
 pub use place::{SEGMENT_BLOCKS, blocks_needed, first_block, header_block};
 pub use scanning::scan;
 pub use trail::{Part, Trail};
+
+#[cfg(test)]
+mod tests;
