@@ -1,6 +1,6 @@
 -- Headers found one after the other, and looked up by their numbers.
 use Rattle.std.proofs.Common.{◌≡◌, ℕ, suc, ◌+◌, ◌<◌, ◌≤◌, ◌⊎◌, Bool, true, false, cond, List, [], ◌∷◌, ◌++◌, length, get_or, drop, drop-cons, Option, Some, None, refl, sym, ap, ◌∙◌, subst, inl, inr, arith}
-use Rattle.std.specs.Prelude.{◌==◌, map}
+use Rattle.std.specs.Prelude.{◌==◌, map, MatchOption, IfSome}
 use Rattle.std.specs.List.{find}
 use Rattle.std.proofs.lemmas.Bool.{cases_lt, cases_eq, eqb-true, eqb-false, eq-eqb, ne_eqb}
 use Rattle.std.proofs.lemmas.List.{drop_all}
@@ -8,8 +8,9 @@ use Rattle.sea_segment.specs.Header.{SpellsHeader}
 use Rattle.sea_segment.specs.declared.header.Header.{Header}
 use Rattle.sea_segment.proofs.Headers.{same_header}
 use Rattle.sea_trail.specs.declared.survey.Found.{Found}
+use Rattle.sea_trail.specs.declared.survey.Survey.{Survey}
 use Rattle.sea_trail.specs.Trail.{AreHeaders, HasHeader, IsNewest, IsNumbered, NoHeader, StandsIn, block_of, header_block, header_link}
-use Rattle.sea_trail.specs.Parts.{AreFound, IsFoundIn, IsNewestFound, SpellsNone}
+use Rattle.sea_trail.specs.Parts.{AreFit, AreFound, IsFit, IsFoundIn, IsNewestFound, IsSurvey, SpellsNone, SurveyFits}
 
 -- a header stands in a segment that it names
 stands_at : (image : List ℕ) (s : ℕ) (h : Header) → h.segment ≡ s → SpellsHeader (block_of image (header_block s)) h → StandsIn image h
@@ -212,3 +213,67 @@ number_here seq fs i d lt same =
 
 pub number_nowhere : (seq : ℕ) (fs : List Found) (i : ℕ) → length fs ≤ i → with_number seq (drop i fs) ≡ None
 number_nowhere seq fs i ge = ap (with_number seq) (drop_all i fs ge)
+
+-- ---- one header more, of all that is surveyed
+
+newest_more : (image : List ℕ) (s : ℕ) (old new : Option Found) (f : Found) → IsNewestFound image s old → IsFoundIn (block_of image (header_block s)) s f
+    → MatchOption old (new ≡ Some f) (λ g. (g.header.seq < f.header.seq → new ≡ Some f) × (f.header.seq ≤ g.header.seq → new ≡ Some g)) → IsNewestFound image (s + 1) new
+newest_more image s None new f was is chosen =
+    subst (IsNewestFound image (s + 1)) (sym chosen) (newest_later image s f is (λ k has. absurd (was k (omega arith) has.within has.stands)))
+newest_more image s (Some g) new f was is chosen =
+    elim (cases_lt g.header.seq f.header.seq) [
+      | inl lt ↦ subst (IsNewestFound image (s + 1)) (sym (chosen.0 lt)) (newest_later image s f is (λ k has. omega (arith, was.0.greatest k has, lt)))
+      | inr ge ↦ subst (IsNewestFound image (s + 1)) (sym (chosen.1 ge)) (newest_earlier image s g f was is ge)
+    ]
+
+pub surveyed_more : (image block : List ℕ) (s : ℕ) (old new : Survey) (n : Option Found) (f : Found) → block ≡ block_of image (header_block s) → IsSurvey old s image → IsFoundIn block s f
+    → new.found.items ≡ old.found.items ++ f ∷ [] → new.newest ≡ n
+    → MatchOption old.newest (n ≡ Some f) (λ g. (g.header.seq < f.header.seq → n ≡ Some f) × (f.header.seq ≤ g.header.seq → n ≡ Some g)) → IsSurvey new (s + 1) image
+surveyed_more image block s old new n f at was is items newest chosen =
+    let there : IsFoundIn (block_of image (header_block s)) s f = subst (λ (b : List ℕ). IsFoundIn b s f) at is in
+    record {
+      found = subst (AreFound image 0 (s + 1)) (sym items) (AreFound-more image 0 s old.found.items f (omega arith) was.found there);
+      newest = subst (IsNewestFound image (s + 1)) (sym newest) (newest_more image s old.newest n f was.newest there chosen);
+    }
+
+pub surveyed_past : (image block : List ℕ) (s : ℕ) (old : Survey) → block ≡ block_of image (header_block s) → IsSurvey old s image → SpellsNone block s → IsSurvey old (s + 1) image
+surveyed_past image block s old at was none =
+    let there : SpellsNone (block_of image (header_block s)) s = subst (λ (b : List ℕ). SpellsNone b s) at none in
+    record {
+      found = AreFound-past image 0 s old.found.items was.found there;
+      newest = IsNewestFound-past image s old.newest was.newest there;
+    }
+
+-- ---- what is known of the headers, whatever the device tells
+
+AreFit-more : (segments : ℕ) (fs : List Found) (f : Found) → AreFit segments fs → IsFit segments f → AreFit segments (fs ++ f ∷ [])
+AreFit-more segments [] f fits fit = (fit, tt)
+AreFit-more segments (g ∷ gs) f fits fit = (fits.0, AreFit-more segments gs f fits.1 fit)
+
+fit_by_test : (segments : ℕ) (g f : Found) (rest : Option Found) → IsFit segments g → (rest ≡ Some f → IsFit segments f) → (b : Bool) → cond b (Some g) rest ≡ Some f → IsFit segments f
+fit_by_test segments g f rest fit later true e = let same : g ≡ f = cc in subst (IsFit segments) same fit
+fit_by_test segments g f rest fit later false e = later e
+
+pub AreFit-find : (segments seq : ℕ) (fs : List Found) (f : Found) → AreFit segments fs → with_number seq fs ≡ Some f → IsFit segments f
+AreFit-find segments seq [] f fits e = cc
+AreFit-find segments seq (g ∷ gs) f fits e =
+    fit_by_test segments g f (with_number seq gs) fits.0 (AreFit-find segments seq gs f fits.1) (g.header.seq == seq) e
+
+newest_fits : (segments : ℕ) (old new : Option Found) (f : Found) → IfSome old (IsFit segments) → IsFit segments f
+    → MatchOption old (new ≡ Some f) (λ g. (g.header.seq < f.header.seq → new ≡ Some f) × (f.header.seq ≤ g.header.seq → new ≡ Some g)) → IfSome new (IsFit segments)
+newest_fits segments None new f was fit chosen = subst (λ (o : Option Found). IfSome o (IsFit segments)) (sym chosen) fit
+newest_fits segments (Some g) new f was fit chosen =
+    elim (cases_lt g.header.seq f.header.seq) [
+      | inl lt ↦ subst (λ (o : Option Found). IfSome o (IsFit segments)) (sym (chosen.0 lt)) fit
+      | inr ge ↦ subst (λ (o : Option Found). IfSome o (IsFit segments)) (sym (chosen.1 ge)) was
+    ]
+
+pub fits_more : (block : List ℕ) (segments s : ℕ) (old new : Survey) (n : Option Found) (f : Found) → s < segments → SurveyFits old segments → IsFoundIn block s f
+    → new.found.items ≡ old.found.items ++ f ∷ [] → new.newest ≡ n
+    → MatchOption old.newest (n ≡ Some f) (λ g. (g.header.seq < f.header.seq → n ≡ Some f) × (f.header.seq ≤ g.header.seq → n ≡ Some g)) → SurveyFits new segments
+fits_more block segments s old new n f lt was is items newest chosen =
+    let within : f.header.segment < segments = omega (arith, is.named, lt) in
+    record {
+      found = subst (AreFit segments) (sym items) (AreFit-more segments old.found.items f was.found (within, is.link));
+      newest = subst (λ (o : Option Found). IfSome o (IsFit segments)) (sym newest) (newest_fits segments old.newest n f was.newest (within, is.link) chosen);
+    }

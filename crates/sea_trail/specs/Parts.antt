@@ -1,5 +1,5 @@
 -- What the parts of an image that are read stand for.
-use Rattle.std.specs.Prelude.{◌≡◌, ℕ, ◌+◌, ◌*◌, ◌<◌, ◌≤◌, List, [], ◌∷◌, ◌++◌, length, take, Option, Some, None}
+use Rattle.std.specs.Prelude.{◌≡◌, ℕ, ◌+◌, ◌*◌, ◌<◌, ◌≤◌, List, [], ◌∷◌, ◌++◌, length, take, Option, Some, None, IfSome}
 use Rattle.sea_record.specs.Record.{blocks}
 use Rattle.sea_record.specs.declared.record.Record.{Record}
 use Rattle.sea_segment.specs.Header.{SpellsHeader}
@@ -52,6 +52,18 @@ IsNewestFound image segments (Some f) = IsNewest image segments f.header × (f.l
 pub record IsSurvey (survey : Survey) (segments : ℕ) (image : List ℕ) : Type 0 where
   pub found : AreFound image 0 segments survey.found.items
   pub newest : IsNewestFound image segments survey.newest
+
+-- a header that was found can be gone on from, whatever the device tells
+abbrev pub IsFit : ℕ → Found → Type 0
+IsFit segments f = (f.header.segment < segments) × (f.link ≡ header_link f.header)
+
+abbrev pub AreFit : ℕ → List Found → Type 0
+AreFit segments [] = Unit {0}
+AreFit segments (f ∷ fs) = IsFit segments f × AreFit segments fs
+
+pub record SurveyFits (survey : Survey) (segments : ℕ) : Type 0 where
+  pub found : AreFit segments survey.found.items
+  pub newest : IfSome survey.newest (IsFit segments)
 
 -- the chain of a segment whose bytes behind the header these are
 pub record IsPartOf (found : Found) (bytes : List ℕ) (p : Part) : Type 0 where

@@ -2,7 +2,7 @@
 ghost use Rattle.std.specs.Prelude.{◌≡◌, ◌+◌, ◌<◌, ◌≤◌, ◌↔◌, List, ◌++◌, length, IfOk, IfErr, IfSome, IsTrue, MatchOption, drop};
 ghost use Rattle.sea_device.specs.Calls.{OnlyRead};
 ghost use Rattle.sea_trail.specs.Faults.{BlamesDevice};
-ghost use Rattle.sea_trail.specs.Parts.{AreFound, IsPlace, IsPlaced, HasNoPlace};
+ghost use Rattle.sea_trail.specs.Parts.{AreFit, AreFound, IsPlace, IsPlaced, HasNoPlace};
 ghost use Rattle.sea_trail.specs.Refusals.{Refuses, IsBreak};
 ghost use Rattle.sea_trail.specs.Trail.{AreLinked, AreClosed, Follows, IsOpen, blocks_needed, records_in};
 ghost use Rattle.sea_trail.specs.declared.fault.ScanFault.TheVariants.{DeviceFault};
@@ -26,6 +26,7 @@ pub fn read_closed<D: Device>(
 ) -> Result<Vec<Part>, ScanFault>
     requires few { (segments ≤ 8191) × (blocks_needed segments ≤ D.size device.old) }
     requires behind { newest.now.last.tail.seq ≤ newest.now.header.seq }
+    requires fit { AreFit segments found.now }
     requires found { IfSome (D.contents device.old) (λ image.
         AreFound image 0 segments found.now × IsOpen image segments newest.now) }
     ensures closed { IfOk result (λ parts. IfSome (D.contents device.old)

@@ -3,7 +3,7 @@ ghost use Rattle.std.specs.Prelude.{◌≡◌, ◌≤◌, ◌<◌, ◌==◌, IfO
 ghost use Rattle.std.specs.List.{find};
 ghost use Rattle.sea_device.specs.Calls.{OnlyRead};
 ghost use Rattle.sea_trail.specs.Faults.{BlamesDevice};
-ghost use Rattle.sea_trail.specs.Parts.{AreFound, IsSurvey, IsFoundIn, SpellsNone};
+ghost use Rattle.sea_trail.specs.Parts.{IsSurvey, IsFoundIn, SpellsNone, SurveyFits};
 ghost use Rattle.sea_trail.specs.Trail.{blocks_needed};
 ghost use Rattle.sea_trail.specs.declared.fault.ReadFault.TheVariants.{DeviceFault};
 
@@ -38,6 +38,7 @@ pub fn read_headers<D: Device>(
     requires room { blocks_needed segments ≤ D.size device.old }
     ensures survey { IfOk result (λ survey. IfSome (D.contents device.old)
         (IsSurvey survey segments)) }
+    ensures fits { IfOk result (λ survey. SurveyFits survey segments) }
     ensures read { OnlyRead D.Device device.old device.new }
     ensures cause { BlamesDevice DeviceFault (D.faults device.old) (D.faults device.new) result }
 {

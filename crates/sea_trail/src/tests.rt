@@ -297,12 +297,13 @@ fn where_records_break(rt: HostRuntime) -> Result<(), Fail> {
     let end = ImageWhy::BadRecord { block: Paddr(3) };
     assert_eq!(rt; image.refused(alloc), Some(end));
     image = Image::new(alloc)?;
-    image.says.tail = 4;
+    image.append(alloc, b"", false)?;
+    image.says.tail = 5;
     image.append(alloc, b"one", false)?;
-    assert_eq!(rt; image.scanned(alloc), Ok((0, 1, 4)));
-    image.says.tail = 3;
+    assert_eq!(rt; image.scanned(alloc), Ok((0, 1, 5)));
+    image.says.tail = 4;
     image.append(alloc, b"two", false)?;
-    let astray = ImageWhy::BadRecord { block: Paddr(3) };
+    let astray = ImageWhy::BadRecord { block: Paddr(4) };
     assert_eq!(rt; image.refused(alloc), Some(astray));
     image.says.tail_seq = says.seq;
     image.says.tail = 2050;

@@ -1,10 +1,38 @@
+use Rattle.std.proofs.Common.{◌≡◌, ℕ, ◌+◌, ◌*◌, ◌≤◌, List, length, drop, refl, ap, ◌∙◌, arith}
+use Rattle.std.proofs.lemmas.List.{length-drop}
+use Rattle.std.proofs.lemmas.Option.{MatchOption-at_some, MatchOption-at_none}
+use Rattle.sea_record.specs.Record.{blocks}
+use Rattle.sea_trail.specs.Parts.{GoesOn}
+use Rattle.sea_trail.specs.Trail.{NoneContinues}
+use Rattle.sea_trail.proofs.Chains.{HasRead-all, HasRead-more, blocks-some, within}
 use Rattle.sea_trail.proofs.chain.part_in.Goals as goal
+use Rattle.sea_trail.proofs.chain.part_in.Goals.{In_ok-push}
+
+goes : (c : In_ok-push) → GoesOn (drop c.loop-part.at c.args.bytes.now) c.loop-part.part c.in-Some.next
+goes c =
+    let rest = drop c.loop-part.at c.args.bytes.now in
+    let part = c.loop-part.part in
+    MatchOption-at_some (NoneContinues rest part.end.0 part.header.seq part.last) (GoesOn rest part) c.in-Some.next c.in-Some.is c.in_ok-next.ensures.found
 
 pub loop-part-smaller : goal.loop-part-smaller
-loop-part-smaller c = ?
+loop-part-smaller c =
+    let at = c.loop-part.at in
+    let bytes = c.args.bytes.now in
+    let r = c.in-Some.next.entry in
+    let size : c.size-blocks.result ≡ blocks r.body = c.size-blocks.ensures in
+    let some : 1 ≤ blocks r.body = blocks-some r in
+    let fits : 4096 * blocks r.body ≤ length (drop at bytes) = within (drop at bytes) r (goes c).continues.stands in
+    let left = length-drop at bytes in
+    omega arith
 
 pub loop-part-preserved : goal.loop-part-preserved
-loop-part-preserved c = ?
+loop-part-preserved c =
+    HasRead-more c.args.found.now c.args.bytes.now c.loop-part.at _ c.loop-part.part _ c.in-Some.next c.loop-part.invariant (goes c)
+    (ap (λ (n : ℕ). c.loop-part.at + n * 4096) c.size-blocks.ensures) refl c.in_ok-push.ensures.ok (ap (λ (n : ℕ). c.loop-part.part.end.0 + n) c.size-blocks.ensures) refl
 
 pub returns : goal.returns
-returns c = ?
+returns c =
+    let rest = drop c.loop-part.at c.args.bytes.now in
+    let part = c.loop-part.part in
+    HasRead-all c.args.found.now c.args.bytes.now c.loop-part.at part c.loop-part.invariant
+    (MatchOption-at_none (NoneContinues rest part.end.0 part.header.seq part.last) (GoesOn rest part) c.in_default.is c.in_ok-next.ensures.found)
