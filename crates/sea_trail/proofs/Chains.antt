@@ -52,8 +52,8 @@ HasRead-none found bytes p header records ends last = record {
   header = header;
   goes_on = λ more chain.
       let first : IsChain bytes (first_block found.header.segment) found.header.seq found.link more =
-          subst (λ (l : Link). IsChain bytes (first_block found.header.segment) found.header.seq l more) last
-          (subst (λ (e : ℕ). IsChain bytes e found.header.seq p.last more) ends chain) in
+      subst (λ (l : Link). IsChain bytes (first_block found.header.segment) found.header.seq l more) last
+      (subst (λ (e : ℕ). IsChain bytes e found.header.seq p.last more) ends chain) in
       subst (λ (rs : List Record). IsChain bytes (first_block found.header.segment) found.header.seq found.link (rs ++ more)) (sym records) first;
   ends = ends ∙ ap (chain_end (first_block found.header.segment)) (sym records);
   last = last ∙ ap (last_link found.link) (sym records);
@@ -74,9 +74,9 @@ HasRead-more found bytes at to p q next has goes to_is header records ends last 
       header = header ∙ has.header;
       goes_on = λ more chain.
           let on : IsChain (drop (4096 * blocks r.body) (drop at bytes)) (p.end.0 + blocks r.body) found.header.seq (link_of r) more =
-              subst (λ (b : List ℕ). IsChain b (p.end.0 + blocks r.body) found.header.seq (link_of r) more) (sym past)
-              (subst (λ (l : Link). IsChain (drop to bytes) (p.end.0 + blocks r.body) found.header.seq l more) last_is
-              (subst (λ (e : ℕ). IsChain (drop to bytes) e found.header.seq q.last more) ends chain)) in
+          subst (λ (b : List ℕ). IsChain b (p.end.0 + blocks r.body) found.header.seq (link_of r) more) (sym past)
+          (subst (λ (l : Link). IsChain (drop to bytes) (p.end.0 + blocks r.body) found.header.seq l more) last_is
+          (subst (λ (e : ℕ). IsChain (drop to bytes) e found.header.seq q.last more) ends chain)) in
           let whole = has.goes_on (r ∷ more) (here, on) in
           subst (λ (rs : List Record). IsChain bytes (first_block found.header.segment) found.header.seq found.link rs) (sym (append_assoc p.records (r ∷ []) more) ∙ ap (λ (rs : List Record). rs ++ more) (sym records)) whole;
       ends = ends ∙ ap (λ (e : ℕ). e + blocks r.body) has.ends ∙ sym (chain_end-append (first_block found.header.segment) p.records (r ∷ [])) ∙ ap (chain_end (first_block found.header.segment)) (sym records);

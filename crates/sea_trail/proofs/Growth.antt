@@ -71,7 +71,7 @@ grown_chain old new place seq link (r ∷ rs) news chain same more =
         prev = chain.0.prev;
       },
       grown_chain (drop size old) (drop size new) next seq (link_of r) rs news chain.1 behind
-        (subst (λ (b : List ℕ). IsChain b end seq (last_link (link_of r) rs) news) (sym past) more),
+          (subst (λ (b : List ℕ). IsChain b end seq (last_link (link_of r) rs) news) (sym past) more),
     )
 
 -- ---- segments of another image
@@ -145,14 +145,22 @@ from_more place (q ∷ qs) p records from =
     (from.0, from.1, from.2, from.3, ap (λ (rs : List Record). rs ++ p.records) from.4 ∙ append_assoc from.1 (records_in qs) p.records ∙ ap (λ (rs : List Record). from.1 ++ rs) (sym (records_one qs p)))
 
 pub grows_from : (place : ℕ) (closed : List Part) (p : Part) (records news : List Record) → AreFrom place (closed ++ p ∷ []) records → AreFrom place (closed ++ grown_part p news ∷ []) (records ++ news)
-grows_from place [] p records news from =
-    (from.0, from.1 ++ news, ap (λ (rs : List Record). rs ++ news) from.2 ∙ append_assoc from.0 from.1 news, from.3,
-      ap (λ (rs : List Record). rs ++ news) (from.4 ∙ append-nil from.1) ∙ sym (append-nil (from.1 ++ news)))
-grows_from place (q ∷ qs) p records news from =
-    (from.0, from.1, from.2, from.3,
-      ap (λ (rs : List Record). rs ++ news) (from.4 ∙ ap (λ (rs : List Record). from.1 ++ rs) (records_one qs p))
+grows_from place [] p records news from = (
+  from.0,
+  from.1 ++ news,
+  ap (λ (rs : List Record). rs ++ news) from.2 ∙ append_assoc from.0 from.1 news,
+  from.3,
+  ap (λ (rs : List Record). rs ++ news) (from.4 ∙ append-nil from.1) ∙ sym (append-nil (from.1 ++ news)),
+)
+grows_from place (q ∷ qs) p records news from = (
+  from.0,
+  from.1,
+  from.2,
+  from.3,
+  ap (λ (rs : List Record). rs ++ news) (from.4 ∙ ap (λ (rs : List Record). from.1 ++ rs) (records_one qs p))
       ∙ append_assoc from.1 (records_in qs ++ p.records) news
-      ∙ ap (λ (rs : List Record). from.1 ++ rs) (append_assoc (records_in qs) p.records news ∙ sym (records_one qs (grown_part p news))))
+      ∙ ap (λ (rs : List Record). from.1 ++ rs) (append_assoc (records_in qs) p.records news ∙ sym (records_one qs (grown_part p news))),
+)
 
 -- ---- the laws
 
@@ -166,13 +174,13 @@ grown_open old new t trail keeps news more =
     let ends : t.end.0 ≡ chain_end first p.records = ap (λ e. e.0) trail.ends ∙ has.ends in
     let count : 4096 * (t.end.0 - first_block t.active) ≡ 4096 * (chain_end first p.records - first) = ap (λ (n : ℕ). 4096 * (n - first_block t.active)) ends ∙ ap (λ (s : ℕ). 4096 * (chain_end first p.records - first_block s)) active in
     let same = subst (λ (n : ℕ). take n (body_of new p.header.segment) ≡ take n (body_of old p.header.segment)) count
-        (subst (λ (s : ℕ). take (4096 * (t.end.0 - first_block t.active)) (body_of new s) ≡ take (4096 * (t.end.0 - first_block t.active)) (body_of old s)) active keeps.records) in
+    (subst (λ (s : ℕ). take (4096 * (t.end.0 - first_block t.active)) (body_of new s) ≡ take (4096 * (t.end.0 - first_block t.active)) (body_of old s)) active keeps.records) in
     let rest : rest_of new t ≡ drop (4096 * (chain_end first p.records - first)) (body_of new p.header.segment) = ap (λ (n : ℕ). drop n (body_of new t.active)) count ∙ ap (λ (s : ℕ). drop (4096 * (chain_end first p.records - first)) (body_of new s)) active in
     let last : trail_link t ≡ last_link (header_link p.header) p.records = trail.last ∙ has.last in
     let more' = subst (λ (b : List ℕ). IsChain b (chain_end first p.records) p.header.seq (last_link (header_link p.header) p.records) news) rest
-        (subst (λ (e : ℕ). IsChain (rest_of new t) e p.header.seq (last_link (header_link p.header) p.records) news) ends
-        (subst (λ (s : ℕ). IsChain (rest_of new t) t.end.0 s (last_link (header_link p.header) p.records) news) trail.seq
-        (subst (λ (l : Link). IsChain (rest_of new t) t.end.0 t.seq l news) last more))) in
+    (subst (λ (e : ℕ). IsChain (rest_of new t) e p.header.seq (last_link (header_link p.header) p.records) news) ends
+    (subst (λ (s : ℕ). IsChain (rest_of new t) t.end.0 s (last_link (header_link p.header) p.records) news) trail.seq
+    (subst (λ (l : Link). IsChain (rest_of new t) t.end.0 t.seq l news) last more))) in
     record {
       chain = grown_chain (body_of old p.header.segment) (body_of new p.header.segment) first p.header.seq (header_link p.header) p.records news has.chain same more';
       ends = ap (λ (e : ℕ). chain_end e news) has.ends ∙ sym (chain_end-append first p.records news);
@@ -244,10 +252,10 @@ rolls old new t u h trail keeps none has number follows tail before chain to =
     let newest = trail.is_open.newest in
     let seq_is : t.seq ≡ p.header.seq = trail.seq in
     let was : (k : Header) → HasHeader new t.segments k → k.seq < h.seq → HasHeader old t.segments k = λ k has_k lt.
-        elim (before k has_k) [
-          | inl same ↦ (let e : k.seq ≡ h.seq = ap (λ (x : Header). x.seq) same in absurd (omega arith))
-          | inr there ↦ there
-        ] in
+    elim (before k has_k) [
+      | inl same ↦ (let e : k.seq ≡ h.seq = ap (λ (x : Header). x.seq) same in absurd (omega arith))
+      | inr there ↦ there
+    ] in
     let top : IsNewest new t.segments h = record {
       numbered = record {
         has = has;

@@ -37,10 +37,14 @@ AreFound-past image from s (f ∷ fs) found here =
 pub AreFound-more : (image : List ℕ) (from s : ℕ) (fs : List Found) (f : Found) → from ≤ s → AreFound image from s fs → IsFoundIn (block_of image (header_block s)) s f → AreFound image from (s + 1) (fs ++ f ∷ [])
 AreFound-more image from s [] f le none is =
     let low : from ≤ f.header.segment = omega (arith, is.named) in
-    let within : f.header.segment < s + 1 = omega (arith, is.named) in
-    (low, within, stands_at image s f.header is.named is.spells, is.link,
+    let within : f.header.segment < s + 1 = omega (arith, is.named) in (
+      low,
+      within,
+      stands_at image s f.header is.named is.spells,
+      is.link,
       λ h l high stands. none h l (omega (arith, is.named, high)) stands,
-      λ h l high stands. omega (arith, is.named, l, high))
+      λ h l high stands. omega (arith, is.named, l, high),
+    )
 AreFound-more image from s (g ∷ gs) f le found is =
     let within : g.header.segment < s + 1 = omega (arith, found.1) in
     (found.0, within, found.2, found.3, found.4, AreFound-more image (g.header.segment + 1) s gs f (omega (arith, found.1)) found.5 is)
@@ -57,18 +61,20 @@ pub IsNewestFound-past : (image : List ℕ) (s : ℕ) (newest : Option Found) �
 IsNewestFound-past image s None none here = NoHeader-more image 0 s none here
 IsNewestFound-past image s (Some f) is here =
     let before : (k : Header) → HasHeader image (s + 1) k → HasHeader image s k = λ k has.
-        elim (cases_lt k.segment s) [
-          | inl lt ↦ record { within = lt; stands = has.stands }
-          | inr ge ↦ (let named : k.segment ≡ s = omega (arith, has.within) in absurd (here k named (at_stands image s k named has.stands)))
-        ] in
-    (record {
-      numbered = record {
-        has = record { within = omega (arith, is.0.numbered.has.within); stands = is.0.numbered.has.stands };
-        number = refl;
-        least = λ k has e. is.0.numbered.least k (before k has) e;
-      };
-      greatest = λ k has. is.0.greatest k (before k has);
-    }, is.1)
+    elim (cases_lt k.segment s) [
+      | inl lt ↦ record { within = lt; stands = has.stands }
+      | inr ge ↦ (let named : k.segment ≡ s = omega (arith, has.within) in absurd (here k named (at_stands image s k named has.stands)))
+    ] in (
+      record {
+        numbered = record {
+          has = record { within = omega (arith, is.0.numbered.has.within); stands = is.0.numbered.has.stands };
+          number = refl;
+          least = λ k has e. is.0.numbered.least k (before k has) e;
+        };
+        greatest = λ k has. is.0.greatest k (before k has);
+      },
+      is.1,
+    )
 
 -- each header up to the next segment stands before it, or is the one there
 before_or : (image : List ℕ) (s : ℕ) (f : Found) (k : Header) → IsFoundIn (block_of image (header_block s)) s f → HasHeader image (s + 1) k → HasHeader image s k ⊎ (k ≡ f.header)
@@ -80,39 +86,43 @@ before_or image s f k is has =
 
 -- a header with a greater number than all before it is the newest
 pub newest_later : (image : List ℕ) (s : ℕ) (f : Found) → IsFoundIn (block_of image (header_block s)) s f → ((k : Header) → HasHeader image s k → k.seq < f.header.seq) → IsNewestFound image (s + 1) (Some f)
-newest_later image s f is below =
-    (record {
-      numbered = record {
-        has = record { within = omega (arith, is.named); stands = stands_at image s f.header is.named is.spells };
-        number = refl;
-        least = λ k has e. elim (before_or image s f k is has) [
-          | inl before ↦ absurd (omega (arith, below k before, e))
-          | inr same ↦ (let e' : k.segment ≡ f.header.segment = ap (λ (h : Header). h.segment) same in omega (arith, e'))
-        ];
-      };
-      greatest = λ k has. elim (before_or image s f k is has) [
-        | inl before ↦ omega (arith, below k before)
-        | inr same ↦ (let e' : k.seq ≡ f.header.seq = ap (λ (h : Header). h.seq) same in omega (arith, e'))
+newest_later image s f is below = (
+  record {
+    numbered = record {
+      has = record { within = omega (arith, is.named); stands = stands_at image s f.header is.named is.spells };
+      number = refl;
+      least = λ k has e. elim (before_or image s f k is has) [
+        | inl before ↦ absurd (omega (arith, below k before, e))
+        | inr same ↦ (let e' : k.segment ≡ f.header.segment = ap (λ (h : Header). h.segment) same in omega (arith, e'))
       ];
-    }, is.link)
+    };
+    greatest = λ k has. elim (before_or image s f k is has) [
+      | inl before ↦ omega (arith, below k before)
+      | inr same ↦ (let e' : k.seq ≡ f.header.seq = ap (λ (h : Header). h.seq) same in omega (arith, e'))
+    ];
+  },
+  is.link,
+)
 
 -- one that has not, isn't
 pub newest_earlier : (image : List ℕ) (s : ℕ) (g f : Found) → IsNewestFound image s (Some g) → IsFoundIn (block_of image (header_block s)) s f → f.header.seq ≤ g.header.seq → IsNewestFound image (s + 1) (Some g)
-newest_earlier image s g f newest is le =
-    (record {
-      numbered = record {
-        has = record { within = omega (arith, newest.0.numbered.has.within); stands = newest.0.numbered.has.stands };
-        number = refl;
-        least = λ k has e. elim (before_or image s f k is has) [
-          | inl before ↦ newest.0.numbered.least k before e
-          | inr same ↦ (let e' : k.segment ≡ f.header.segment = ap (λ (h : Header). h.segment) same in omega (arith, e', is.named, newest.0.numbered.has.within))
-        ];
-      };
-      greatest = λ k has. elim (before_or image s f k is has) [
-        | inl before ↦ newest.0.greatest k before
-        | inr same ↦ (let e' : k.seq ≡ f.header.seq = ap (λ (h : Header). h.seq) same in omega (arith, e'))
+newest_earlier image s g f newest is le = (
+  record {
+    numbered = record {
+      has = record { within = omega (arith, newest.0.numbered.has.within); stands = newest.0.numbered.has.stands };
+      number = refl;
+      least = λ k has e. elim (before_or image s f k is has) [
+        | inl before ↦ newest.0.numbered.least k before e
+        | inr same ↦ (let e' : k.segment ≡ f.header.segment = ap (λ (h : Header). h.segment) same in omega (arith, e', is.named, newest.0.numbered.has.within))
       ];
-    }, newest.1)
+    };
+    greatest = λ k has. elim (before_or image s f k is has) [
+      | inl before ↦ newest.0.greatest k before
+      | inr same ↦ (let e' : k.seq ≡ f.header.seq = ap (λ (h : Header). h.seq) same in omega (arith, e'))
+    ];
+  },
+  newest.1,
+)
 
 -- ---- headers by their numbers
 
@@ -184,12 +194,14 @@ numbered_none image from to seq (g ∷ gs) found e k low high stands number =
 
 pub IsNumbered-found : (image : List ℕ) (segments seq : ℕ) (fs : List Found) (f : Found) → AreFound image 0 segments fs → with_number seq fs ≡ Some f → IsNumbered image segments seq f.header × (f.link ≡ header_link f.header)
 IsNumbered-found image segments seq fs f found e =
-    let first = numbered_some image 0 segments seq fs f found e in
-    (record {
-      has = record { within = first.within; stands = first.stands };
-      number = first.number;
-      least = λ k has number. first.least k (omega arith) has.within has.stands number;
-    }, first.link)
+    let first = numbered_some image 0 segments seq fs f found e in (
+      record {
+        has = record { within = first.within; stands = first.stands };
+        number = first.number;
+        least = λ k has number. first.least k (omega arith) has.within has.stands number;
+      },
+      first.link,
+    )
 
 pub none_numbered : (image : List ℕ) (segments seq : ℕ) (fs : List Found) → AreFound image 0 segments fs → with_number seq fs ≡ None → (k : Header) → HasHeader image segments k → k.seq ≡ seq → ⊥
 none_numbered image segments seq fs found e k has number = numbered_none image 0 segments seq fs found e k (omega arith) has.within has.stands number

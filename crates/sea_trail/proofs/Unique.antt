@@ -124,9 +124,17 @@ same_both image m n p q xs ys is_p is_q are_x are_y =
 
 made_trail : ℕ → ℕ → ℕ → Paddr → Link → List Record → List Header → Trail
 made_trail segments active seq end link records headers = record {
-  segments = segments; active = active; seq = seq; end = end;
-  mount = link.mount; commit = link.commit; last = link.digest; tail = link.tail; root = link.root;
-  records = records; headers = headers;
+  segments = segments;
+  active = active;
+  seq = seq;
+  end = end;
+  mount = link.mount;
+  commit = link.commit;
+  last = link.digest;
+  tail = link.tail;
+  root = link.root;
+  records = records;
+  headers = headers;
 }
 
 pub one_trail : (image : List ℕ) (t u : Trail) → IsTrail image t → IsTrail image u → t ≡ u

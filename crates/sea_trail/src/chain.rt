@@ -16,11 +16,7 @@ use sea_record::{Kind, Record, decode, digest_in, size};
 use std::alloc::Global;
 
 /// Reads the chain of a segment, its blocks behind the header at once.
-pub fn read_part<D: Device>(
-    alloc: Global,
-    device: &mut D,
-    found: &Found,
-) -> Result<Part, ReadFault>
+pub fn read_part<D: Device>(alloc: Global, device: &mut D, found: &Found) -> Result<Part, ReadFault>
     requires few { found.now.header.segment ≤ 8191 }
     requires within { segment_end found.now.header.segment ≤ D.size device.old }
     requires link { found.now.link ≡ header_link found.now.header }

@@ -2,7 +2,6 @@
 ghost use Rattle.std.specs.Prelude.{◌≡◌, ◌≤◌};
 ghost use Rattle.sea_trail.specs.Trail as trail;
 
-
 /// How many blocks a segment has, first its header.
 pub const SEGMENT_BLOCKS: u32 = 2048;
 

@@ -33,11 +33,7 @@ pub fn read_blocks<D: Device>(
 }
 
 /// One block.
-pub fn read_block<D: Device>(
-    alloc: Global,
-    device: &mut D,
-    at: u32,
-) -> Result<Block, ReadFault>
+pub fn read_block<D: Device>(alloc: Global, device: &mut D, at: u32) -> Result<Block, ReadFault>
     requires { at + 1 ≤ D.size device.old }
     ensures block { IfOk result (λ block. IfSome (D.contents device.old)
         (λ image. block ≡ block_of image at)) }

@@ -1,9 +1,7 @@
 //! Scans of images that are put together by the format, apart from the crates that spell it.
 
 use crate::{ImageWhy, ScanFault, Trail, scan};
-use sea_base::{
-    BLOCK_BYTES, Digest, NoMemory, Paddr, digest_of, push_u32, push_u64,
-};
+use sea_base::{BLOCK_BYTES, Digest, NoMemory, Paddr, digest_of, push_u32, push_u64};
 use sea_device::{Device, Failed, SteadyDevice};
 use std::alloc::Global;
 use std::test::Fail;
@@ -272,9 +270,15 @@ fn why_a_chain_is_refused(rt: HostRuntime) -> Result<(), Fail> {
     let middle = header(alloc, 1, &image.says)?;
     assert_eq!(rt; image.scanned(alloc), Ok((2, 3, 4098)));
     put(&mut image.device, 2049, &zeros)?;
-    assert_eq!(rt; image.refused(alloc), Some(ImageWhy::MissingSegment { seq: 2 }));
+    assert_eq!(rt;
+        image.refused(alloc),
+        Some(ImageWhy::MissingSegment { seq: 2 })
+    );
     put(&mut image.device, 2049, &middle.bytes)?;
-    assert_eq!(rt; image.refused(alloc), Some(ImageWhy::MissingSegment { seq: 2 }));
+    assert_eq!(rt;
+        image.refused(alloc),
+        Some(ImageWhy::MissingSegment { seq: 2 })
+    );
     put(&mut image.device, 1, &zeros)?;
     put(&mut image.device, 2049, &zeros)?;
     put(&mut image.device, 4097, &zeros)?;

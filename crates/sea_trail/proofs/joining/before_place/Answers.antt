@@ -6,9 +6,10 @@ use Rattle.sea_trail.proofs.joining.before_place.Goals as goal
 pub returns-then-eq : goal.returns-then-eq
 returns-then-eq c = λ placed.
     let same = c.items-entry-items.ensures in
-    let e = eqb-true c.entry-item.result.place.0 c.args.place.0 (sym c.if-eq.ensures) in
-    (omega (arith, ap length same),
-      sym e ∙ found_place c.args.part.now c.items-entry-items.result.now c.loop-i.i c.entry-item.result same c.entry-item.is c.loop-i-test.true placed)
+    let e = eqb-true c.entry-item.result.place.0 c.args.place.0 (sym c.if-eq.ensures) in (
+      omega (arith, ap length same),
+      sym e ∙ found_place c.args.part.now c.items-entry-items.result.now c.loop-i.i c.entry-item.result same c.entry-item.is c.loop-i-test.true placed,
+    )
 
 pub loop-i-preserved : goal.loop-i-preserved
 loop-i-preserved c = λ placed.
