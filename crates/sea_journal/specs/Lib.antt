@@ -1,0 +1,5 @@
+pub mod Batch
+pub mod Changes
+pub mod Mkfs
+pub mod Room
+pub mod Segments
