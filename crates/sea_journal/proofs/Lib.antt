@@ -1,5 +1,5 @@
-pub mod Batches
 pub mod Calls
 pub mod Blanks
+pub mod FreshTrails
 pub mod Overlays
 pub mod Tears

@@ -1,18 +1,20 @@
 //! Making a fresh image.
-ghost use Rattle.std.specs.Prelude.{◌≡◌, ◌≤◌, IfErr, OnOk};
+ghost use Rattle.std.specs.Prelude.{◌≡◌, ◌≤◌, length, IfErr, IfSome, OnOk};
 ghost use Rattle.std.specs.Option.{option_map};
 ghost use Rattle.sea_device.specs.Calls.{OnlyRead};
 ghost use Rattle.sea_device.specs.Device.{overwritten};
 ghost use Rattle.sea_segment.specs.Superblock.{IsSegmentCount};
 ghost use Rattle.sea_segment.specs.Header.{IsHeader};
-ghost use Rattle.sea_journal.specs.Mkfs.{IsFresh, IsRefused, IsFoundUnfit, first_header};
+ghost use Rattle.sea_journal.specs.Mkfs.{IsFresh, IsRefused, IsFoundUnfit, HasFreshTrail, first_header};
 ghost use Rattle.sea_journal.specs.Changes.{ChangesBy, InBlocks, CountsFaults, LeavesItself};
 ghost use Rattle.sea_journal.specs.declared.fresh.MkfsFault.TheVariants.{NoMemory as OutOfMemory, DeviceFault};
 
 use crate::SEGMENT_BLOCKS;
 use crate::fronts::first_filled;
 use crate::put::put_blocks;
-use sea_base::{BLOCK_BYTES, Block, Commit, Digest, Laddr, NoMemory, PRoot, Paddr, Root, Sum, Tail};
+use sea_base::{
+    BLOCK_BYTES, Block, Commit, Digest, Laddr, NoMemory, PRoot, Paddr, Root, Sum, Tail,
+};
 use sea_device::{Device, Failed};
 use sea_segment::{Header, Super};
 use std::alloc::{AllocError, Global};
@@ -66,11 +68,14 @@ const EMPTY_TREE: PRoot = PRoot {
 };
 
 /// Makes an image of so many segments, 6 to 8,191, without a record. The device has to be empty: block
-/// 0 and the segments' first blocks are zeros. The header of segment 0 is written and synced before the
-/// superblock is, so that an image without the one hasn't the other.
+/// 0 and the segments' first blocks are zeros. The header of segment 0 is written and synced, and then
+/// the superblock is.
 pub fn mkfs<D: Device>(alloc: Global, device: &mut D, segments: u32) -> Result<(), MkfsFault>
     requires { IsSegmentCount segments }
     ensures made { OnOk result (IsFresh segments D.Device device.old device.new) }
+    // The image has the trail without records, given that none stood at block 2.
+    ensures trail { OnOk result (IfSome (D.contents device.old) (λ old.
+        IfSome (D.contents device.new) (HasFreshTrail segments old))) }
     ensures refused { IfErr result (IsRefused segments (D.size device.old)
         (D.faults device.old) (D.faults device.new) (D.contents device.old)) }
     ensures untouched { IfErr result (λ fault. IsFoundUnfit fault
@@ -116,15 +121,12 @@ fn first_header() -> Header
 }
 
 // Writes and syncs the header, and then the superblock.
-fn write_fresh<D: Device>(
-    device: &mut D,
-    header: &Block,
-    superblock: &Block,
-) -> Result<(), Failed>
+fn write_fresh<D: Device>(device: &mut D, header: &Block, superblock: &Block) -> Result<(), Failed>
     requires { 2 ≤ D.size device.old }
     ensures written { OnOk result (D.contents device.new ≡ option_map
         (λ b. overwritten 0 superblock.now (overwritten 4096 header.now b)) (D.contents device.old)) }
     ensures alone { OnOk result (LeavesItself D.Device device.new) }
+    ensures blocks { OnOk result ((length superblock.now ≡ 4096) × (length header.now ≡ 4096)) }
     ensures within { ChangesBy (InBlocks 0 2) D.Device device.old device.new }
     ensures cause { CountsFaults (D.faults device.old) (D.faults device.new) result }
 {

@@ -1,7 +1,7 @@
 //! Blocks that have to be zeros before an image is made.
 ghost use Rattle.std.specs.Prelude.{◌≡◌, ℕ, ◌+◌, ◌*◌, ◌<◌, ◌≤◌, ◌↔◌, length, IsTrue, IfOk, IfSome, MatchOption};
 ghost use Rattle.sea_device.specs.Calls.{OnlyRead};
-ghost use Rattle.sea_journal.specs.Segments.{blocks_of};
+ghost use Rattle.sea_trail.specs.Trail.{blocks_needed};
 ghost use Rattle.sea_journal.specs.Mkfs.{AllBlank, IsBlank, IsLeastFilled};
 ghost use Rattle.sea_journal.specs.Changes.{CountsFaults};
 
@@ -16,7 +16,7 @@ pub fn first_filled<D: Device>(
     buffer: &mut [u8],
 ) -> Result<Option<Paddr>, Failed>
     requires few { segments ≤ 8191 }
-    requires fits { blocks_of segments ≤ D.size device.old }
+    requires fits { blocks_needed segments ≤ D.size device.old }
     requires buffer { length buffer.old ≡ 4096 }
     ensures found { IfOk result (λ found. IfSome (D.contents device.old) (λ image.
         MatchOption found (AllBlank segments image) (λ at. IsLeastFilled segments at.0 image))) }

@@ -1,8 +1,6 @@
 //! The journal of a store: records one behind the other, in segments of a device.
 #![tactic(auto)]
 
-
-mod batch;
 mod fresh;
 mod fronts;
 mod put;
@@ -10,6 +8,9 @@ mod room;
 
 pub use fresh::{MkfsFault, mkfs};
 pub use room::{Who, takes};
+
+#[cfg(test)]
+mod tests;
 
 /// How many blocks a segment has. The first is its header's.
 pub const SEGMENT_BLOCKS: u32 = 2048;
