@@ -1,5 +1,5 @@
 -- Blocks of zeros, read one after the other.
-use Rattle.std.proofs.Common.{◌≡◌, ◌⊎◌, ℕ, ◌+◌, ◌*◌, ◌<◌, ◌≤◌, List, refl, sym, subst, inl, inr, arith, below_more}
+use Rattle.std.proofs.Common.{ℕ, ◌+◌, ◌<◌, List, refl, sym, subst, inl, inr, arith, below_more}
 use Rattle.sea_trail.specs.Trail.{header_block}
 use Rattle.sea_journal.specs.Mkfs.{IsFront, IsBlank, AllBlank, IsLeastFilled}
 

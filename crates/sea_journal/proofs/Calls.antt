@@ -1,5 +1,5 @@
 -- One call of a device after another.
-use Rattle.std.proofs.Common.{◌≡◌, ◌⊎◌, ℕ, ◌≤◌, Bool, List, Option, Some, None, IfSome, refl, sym, ◌∙◌, subst, inl, inr, arith}
+use Rattle.std.proofs.Common.{◌≡◌, ℕ, ◌≤◌, Option, Some, None, IfSome, refl, ◌∙◌, inl, inr, arith}
 use Rattle.std.proofs.lemmas.Option.{MatchOption-at_some}
 use Rattle.sea_device.specs.declared.device.Device.{Ghosts}
 use Rattle.sea_device.specs.Device.{FaultsRose}

@@ -1,9 +1,8 @@
 -- The trail of a fresh image.
-use Rattle.std.proofs.Common.{◌≡◌, ◌⊎◌, ℕ, ◌+◌, ◌-◌, ◌*◌, ◌/◌, ◌<◌, ◌≤◌, List, [], ◌∷◌, ◌++◌, length, take, drop, get_or, replicate, refl, sym, ap, ◌∙◌, subst, inl, inr, arith, length-append}
+use Rattle.std.proofs.Common.{◌≡◌, ℕ, ◌+◌, ◌*◌, ◌<◌, ◌≤◌, List, [], ◌∷◌, ◌++◌, length, take, drop, get_or, replicate, refl, sym, ap, ◌∙◌, subst, inl, inr, arith, length-append}
 use Rattle.std.specs.Prelude.{slice_range}
 use Rattle.std.proofs.lemmas.List.{take_all, length-take-le, length-drop}
 use Rattle.std.proofs.lemmas.Bool.{cases_lt}
-use Rattle.sea_base.proofs.Slices.{each_zero}
 use Rattle.sea_device.specs.Device.{overwritten}
 use Rattle.sea_record.specs.Record.{BeginsWith, BeginsWithNone}
 use Rattle.sea_segment.specs.Header.{SpellsHeader}
@@ -13,7 +12,7 @@ use Rattle.sea_segment.proofs.Headers.{header_shape, same_header}
 use Rattle.sea_segment.proofs.Supers.{any_super}
 use Rattle.sea_trail.specs.Trail.{IsTrail, HasHeader, StandsIn, header_block, header_link, blocks_needed, block_of, body_of}
 use Rattle.sea_trail.specs.declared.trail.Part.{Part}
-use Rattle.sea_journal.specs.Mkfs.{AllBlank, IsBlank, first_header, fresh_trail}
+use Rattle.sea_journal.specs.Mkfs.{AllBlank, first_header, fresh_trail}
 use Rattle.sea_journal.proofs.Overlays.{slice_behind, slice_inside}
 
 -- zeros spell no header

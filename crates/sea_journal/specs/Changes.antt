@@ -13,7 +13,8 @@ ToldBy step (Some old) (Some new) = step old new
 
 -- A device changed by such a step alone: its bytes did, and so did each image that a crash may leave
 -- now or might have left at a moment since.
-pub record ChangesBy {D : Type 0} (step : List ℕ → List ℕ → Type 0) (g : Ghosts D) (old new : D) : Type 0 where
+pub record ChangesBy {D : Type 0} (step : List ℕ → List ℕ → Type 0) (g : Ghosts D)
+    (old new : D) : Type 0 where
   pub size : g.size new ≡ g.size old
   pub told : g.tells_images new ≡ g.tells_images old
   pub contents : ToldBy step (g.contents old) (g.contents new)
@@ -21,7 +22,8 @@ pub record ChangesBy {D : Type 0} (step : List ℕ → List ℕ → Type 0) (g :
   pub later : g.clock old ≤ g.clock new
   pub moments : (t : ℕ) (c : List ℕ) → t ≤ g.clock old → g.left_since new t c
       → g.left_since old t c ⊎ ((d : List ℕ) × g.may_leave old d × step d c)
-  pub keeps : (t : ℕ) (c : List ℕ) → t ≤ g.clock old → g.left_since old t c → g.left_since new t c
+  pub keeps : (t : ℕ) (c : List ℕ) → t ≤ g.clock old → g.left_since old t c
+      → g.left_since new t c
 
 -- at most these blocks from a place on were written, whole or torn
 abbrev pub InBlocks : ℕ → ℕ → List ℕ → List ℕ → Type 0
@@ -34,4 +36,5 @@ CountsFaults before now (Err e) = FaultsRose before now
 
 -- a crash leaves the bytes now, and nothing else
 abbrev pub LeavesItself : {D : Type 0} → Ghosts D → D → Type 0
-LeavesItself g device = (c : List ℕ) → g.may_leave device c → IfSome (g.contents device) (λ b. c ≡ b)
+LeavesItself g device =
+    (c : List ℕ) → g.may_leave device c → IfSome (g.contents device) (λ b. c ≡ b)

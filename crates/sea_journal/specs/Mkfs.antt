@@ -2,7 +2,6 @@
 use Rattle.std.specs.Prelude.{◌≡◌, ◌⊎◌, ℕ, ◌<◌, ◌≤◌, List, [], ◌∷◌, length, replicate, Option, IfSome}
 use Rattle.std.specs.Option.{option_map}
 use Rattle.sea_base.specs.Faults.{FaultsRose}
-use Rattle.sea_base.specs.declared.place.Commit.{Commit}
 use Rattle.sea_base.specs.declared.place.PRoot.{PRoot}
 use Rattle.sea_device.specs.declared.device.Device.{Ghosts}
 use Rattle.sea_device.specs.Device.{overwritten}
@@ -51,20 +50,21 @@ pub record IsLeastFilled (segments at : ℕ) (image : List ℕ) : Type 0 where
   pub filled : IsBlank image at → ⊥
   pub least : (k : ℕ) → IsFront segments k → k < at → IsBlank image k
 
--- Why no image is made of so many segments on a device of this size: the device is too short; or it
--- isn't, and a call of it failed, or it has a block that isn't zeros where it must, or memory ran out.
+-- Why no image is made of so many segments on a device of this size: it is too short; or it isn't, and
+-- a call of it failed, or a block isn't zeros that has to be, or memory ran out.
 abbrev pub IsRefused : ℕ → ℕ → ℕ → ℕ → Option (List ℕ) → MkfsFault → Type 0
 IsRefused segments size before now contents (Short have need) =
     (have ≡ size) × (need ≡ blocks_needed segments) × (have < need) × (now ≡ before)
 IsRefused segments size before now contents DeviceFault =
     (blocks_needed segments ≤ size) × FaultsRose before now
 IsRefused segments size before now contents (NotEmpty block) =
-    (blocks_needed segments ≤ size) × IfSome contents (IsLeastFilled segments block.0) × (now ≡ before)
+    (blocks_needed segments ≤ size) × IfSome contents (IsLeastFilled segments block.0)
+    × (now ≡ before)
 IsRefused segments size before now contents NoMemory =
     (blocks_needed segments ≤ size) × (now ≡ before)
 
--- What is left of a device that was long enough and empty: the superblock and the first header, and all else as it was; a crash
--- leaves this image alone.
+-- What is left of a device that was long enough and empty: the superblock and the first header, and
+-- all else as it was; a crash leaves this image alone, and no call failed.
 pub record IsFresh {D : Type 0} (segments : ℕ) (g : Ghosts D) (old new : D) : Type 0 where
   pub fits : blocks_needed segments ≤ g.size old
   pub blank : IfSome (g.contents old) (AllBlank segments)
@@ -75,6 +75,7 @@ pub record IsFresh {D : Type 0} (segments : ℕ) (g : Ghosts D) (old new : D) : 
   pub written : g.contents new
       ≡ option_map (λ b. overwritten 0 superblock (overwritten 4096 header b)) (g.contents old)
   pub alone : LeavesItself g new
+  pub faults : g.faults new ≡ g.faults old
 
 -- the device was found too short or not empty
 abbrev pub IsFoundUnfit : MkfsFault → Type 0

@@ -72,6 +72,7 @@ returns-clause-made g c =
       is_header = subst (SpellsHeader header) c.first_header.ensures.is c.in_ok-header.ensures;
       written = c.in_ok-write_fresh.ensures.written ∙ ap (option_map (λ (b : List ℕ). overwritten 0 superblock (overwritten 4096 header b))) c.first_filled.ensures.read.contents;
       alone = c.in_ok-write_fresh.ensures.alone;
+      faults = c.in_ok-write_fresh.ensures.cause ∙ c.in_ok-block.ensures.cause;
     }
 
 pub returns-clause-trail : goal.returns-clause-trail

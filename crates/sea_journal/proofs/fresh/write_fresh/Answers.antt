@@ -1,4 +1,4 @@
-use Rattle.std.proofs.Common.{◌≡◌, ◌*◌, ◌∙◌, ap, length, arith}
+use Rattle.std.proofs.Common.{◌≡◌, ◌∙◌, ap, length, arith}
 use Rattle.sea_journal.proofs.Tears.{InRange-then, InRange-wider}
 use Rattle.sea_journal.proofs.fresh.write_fresh.Goals as goal
 

@@ -1,4 +1,4 @@
-use Rattle.std.proofs.Common.{◌≡◌, ◌*◌, ◌+◌, ◌<◌, ◌↔◌, ℕ, IsTrue, List, length, subst, sym, ◌∙◌, arith}
+use Rattle.std.proofs.Common.{◌≡◌, ◌*◌, ◌+◌, ◌<◌, ◌↔◌, ℕ, IsTrue, List, subst, ◌∙◌, arith}
 use Rattle.sea_journal.specs.Mkfs.{IsBlank}
 use Rattle.sea_journal.proofs.Calls.{IfSome-from, IfSome-at}
 use Rattle.sea_journal.proofs.Blanks.{BlankBefore, all_blank, least_next}
