@@ -1,8 +1,7 @@
 -- What is read of a device that tells its bytes, and one reading after another.
-use Rattle.std.proofs.Common.{◌≡◌, ℕ, ◌≤◌, Bool, List, Option, Some, None, IfSome, refl, ◌∙◌, inl, inr, arith}
+use Rattle.std.proofs.Common.{◌≡◌, Option, Some, None, IfSome, refl, ◌∙◌, inl, inr, arith}
 use Rattle.std.proofs.lemmas.Option.{MatchOption-at_some}
 use Rattle.sea_device.specs.declared.device.Device.{Ghosts}
-use Rattle.sea_device.specs.Device.{FaultsRose}
 use Rattle.sea_device.specs.Calls.{OnlyRead}
 
 -- what is shown for each value that is told
@@ -14,22 +13,7 @@ IfSome-from (Some x) P each = each x refl
 pub IfSome-at : {X : Type 0} {told : Option X} (P : X → Type 0) (x : X) → told ≡ Some x → IfSome told P → P x
 IfSome-at P x = MatchOption-at_some (Unit {0}) P x
 
--- what follows for each value that is told
-pub IfSome-map : {X : Type 0} (told : Option X) (P Q : X → Type 0) → ((x : X) → P x → Q x) → IfSome told P → IfSome told Q
-IfSome-map None P Q each p = tt
-IfSome-map (Some x) P Q each p = each x p
-
 module _ {D : Type 0} {g : Ghosts D} where
-  -- reading nothing
-  pub OnlyRead-none : (d : D) → OnlyRead g d d
-  OnlyRead-none d = record {
-    size = refl;
-    contents = refl;
-    told = refl;
-    images = λ c. (λ left. left, λ left. left);
-    time = record { later = omega arith; nothing_else = λ t c before left. inl left; keeps = λ t c before left. left };
-  }
-
   -- reading on
   pub OnlyRead-more : (d e f : D) → OnlyRead g d e → OnlyRead g e f → OnlyRead g d f
   OnlyRead-more d e f first second = record {
@@ -46,8 +30,3 @@ module _ {D : Type 0} {g : Ghosts D} where
       keeps = λ t c before past. second.time.keeps t c (omega arith) (first.time.keeps t c before past);
     };
   }
-
--- a count that rose after it had not fallen
-pub FaultsRose-later : (before mid now : ℕ) → before ≤ mid → FaultsRose mid now → FaultsRose before now
-FaultsRose-later before mid now later (inl rose) = inl (omega arith)
-FaultsRose-later before mid now later (inr full) = inr full
