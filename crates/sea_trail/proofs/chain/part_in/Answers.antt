@@ -1,5 +1,5 @@
-use Rattle.std.proofs.Common.{◌≡◌, ℕ, ◌+◌, ◌*◌, ◌≤◌, List, length, drop, refl, ap, ◌∙◌, arith}
-use Rattle.std.proofs.lemmas.List.{length-drop}
+use Rattle.std.proofs.Common.{◌≡◌, ℕ, ◌+◌, ◌-◌, ◌*◌, ◌≤◌, List, length, take, drop, refl, ap, ◌∙◌, subst, arith}
+use Rattle.std.proofs.lemmas.List.{length-drop, take_all}
 use Rattle.std.proofs.lemmas.Option.{MatchOption-at_some, MatchOption-at_none}
 use Rattle.sea_record.specs.Record.{blocks}
 use Rattle.sea_trail.specs.Parts.{GoesOn}
@@ -8,11 +8,18 @@ use Rattle.sea_trail.proofs.Chains.{HasRead-all, HasRead-more, blocks-some, with
 use Rattle.sea_trail.proofs.chain.part_in.Goals as goal
 use Rattle.sea_trail.proofs.chain.part_in.Goals.{In_ok-push}
 
+-- the bytes of a slice to the end
+sliced : (at : ℕ) (bytes : List ℕ) → take (length bytes - at) (drop at bytes) ≡ drop at bytes
+sliced at bytes = take_all (length bytes - at) (drop at bytes) (omega (arith, length-drop at bytes))
+
 goes : (c : In_ok-push) → GoesOn (drop c.loop-part.at c.args.bytes.now) c.loop-part.part c.in-Some.next
 goes c =
-    let rest = drop c.loop-part.at c.args.bytes.now in
+    let at = c.loop-part.at in
+    let bytes = c.args.bytes.now in
+    let rest = take (length bytes - at) (drop at bytes) in
     let part = c.loop-part.part in
-    MatchOption-at_some (NoneContinues rest part.end.0 part.header.seq part.last) (GoesOn rest part) c.in-Some.next c.in-Some.is c.in_ok-next.ensures.found
+    subst (λ (b : List ℕ). GoesOn b part c.in-Some.next) (sliced at bytes)
+    (MatchOption-at_some (NoneContinues rest part.end.0 part.header.seq part.last) (GoesOn rest part) c.in-Some.next c.in-Some.is c.in_ok-next.ensures.found)
 
 pub loop-part-smaller : goal.loop-part-smaller
 loop-part-smaller c =
@@ -32,7 +39,10 @@ loop-part-preserved c =
 
 pub returns : goal.returns
 returns c =
-    let rest = drop c.loop-part.at c.args.bytes.now in
+    let at = c.loop-part.at in
+    let bytes = c.args.bytes.now in
+    let rest = take (length bytes - at) (drop at bytes) in
     let part = c.loop-part.part in
-    HasRead-all c.args.found.now c.args.bytes.now c.loop-part.at part c.loop-part.invariant
-    (MatchOption-at_none (NoneContinues rest part.end.0 part.header.seq part.last) (GoesOn rest part) c.in_default.is c.in_ok-next.ensures.found)
+    HasRead-all c.args.found.now bytes at part c.loop-part.invariant
+    (subst (λ (b : List ℕ). NoneContinues b part.end.0 part.header.seq part.last) (sliced at bytes)
+    (MatchOption-at_none (NoneContinues rest part.end.0 part.header.seq part.last) (GoesOn rest part) c.in_default.is c.in_ok-next.ensures.found))
