@@ -52,14 +52,18 @@ fn a_run_without_keys_writes_the_first_leaf(rt: HostRuntime) -> Result<(), Trial
 
 // The bytes of a leaf of two pairs, in which one byte is another.
 fn broken(alloc: Global, at: usize, byte: u8) -> Result<Block, TrialFault> {
-    let mut bytes = vec![in alloc; 0; 4096]?;
-    bytes[..8].copy_from_slice(&[83, 76, 66, 65, 0, 0, 0, 2]);
+    let mut bytes = [0; 4096];
+    bytes[0] = b'S';
+    bytes[1] = b'L';
+    bytes[2] = b'B';
+    bytes[3] = b'A';
+    bytes[7] = 2;
     bytes[39] = 1;
     bytes[67] = 2;
     if at < 4096 {
         bytes[at] = byte;
     }
-    Ok(Block::from_vec(bytes)?)
+    Ok(Block::new(alloc, &bytes)?)
 }
 
 #[test]
