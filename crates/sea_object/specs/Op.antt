@@ -1,0 +1,59 @@
+-- The limits of an operation, and what it weighs.
+use Rattle.std.specs.Prelude.{ℕ, ◌+◌, ◌-◌, ◌/◌, ◌≤◌, List, length}
+use Rattle.std.specs.List.{AllByRecursion}
+use Rattle.sea_object.specs.declared.op.Op.{Op}
+use Rattle.sea_object.specs.declared.op.Op.TheVariants.{Touch, Write, Zero, Truncate, Remove, SetAttr, RmAttr, RmAttrs, OmapSetKeys, OmapRmKeys, OmapRmKeyRange, OmapClear, Read, OmapList, List as ListNames}
+
+-- a range that an object can have, of one byte or more
+abbrev pub IsWritten : ℕ → ℕ → Type 0
+IsWritten offset count = (1 ≤ count) × (offset + count ≤ 16777216)
+
+-- one or more, and no more than the limit
+abbrev pub IsCount : ℕ → ℕ → Type 0
+IsCount count limit = (1 ≤ count) × (count ≤ limit)
+
+-- offsets, lengths and numbers are within their limits
+abbrev pub HasGoodRange : Op → Type 0
+HasGoodRange (Write name offset bytes) = IsWritten offset (length bytes)
+HasGoodRange (Zero name offset count) = IsWritten offset count
+HasGoodRange (Truncate name size) = size ≤ 16777216
+HasGoodRange (OmapSetKeys name pairs) = 1 ≤ length pairs
+HasGoodRange (OmapRmKeys name keys) = 1 ≤ length keys
+HasGoodRange (OmapRmKeyRange name from to bound) = IsCount bound 32
+HasGoodRange (Read name offset count) = (offset ≤ 16777216) × IsCount count 65536
+HasGoodRange (OmapList name limit after) = IsCount limit 64
+HasGoodRange (ListNames limit after) = IsCount limit 64
+HasGoodRange _ = Unit {0}
+
+-- no value is longer than 1,024 bytes
+abbrev pub HasGoodValues : Op → Type 0
+HasGoodValues (SetAttr name key value) = length value ≤ 1024
+HasGoodValues (OmapSetKeys name pairs) = AllByRecursion (λ pair. length pair.1 ≤ 1024) pairs
+HasGoodValues _ = Unit {0}
+
+-- how many blocks of 4,096 bytes a range of one byte or more touches
+abbrev pub blocks_touched : ℕ → ℕ → ℕ
+blocks_touched offset count = (offset + count - 1) / 4096 - offset / 4096 + 1
+
+-- the blocks that an operation counts as written
+abbrev pub data_blocks : Op → ℕ
+data_blocks (Write name offset bytes) = blocks_touched offset (length bytes)
+data_blocks (Zero name offset count) = blocks_touched offset count
+data_blocks (Truncate name size) = 1
+data_blocks _ = 0
+
+-- what an operation weighs among the changes of keys
+abbrev pub key_weight : Op → ℕ
+key_weight (Touch name) = 1
+key_weight (Write name offset bytes) = 1
+key_weight (Zero name offset count) = 1
+key_weight (SetAttr name key value) = 1
+key_weight (RmAttr name key) = 1
+key_weight (Remove name) = 8
+key_weight (Truncate name size) = 8
+key_weight (OmapClear name) = 8
+key_weight (RmAttrs name) = 8
+key_weight (OmapSetKeys name pairs) = length pairs
+key_weight (OmapRmKeys name keys) = length keys
+key_weight (OmapRmKeyRange name from to bound) = bound
+key_weight _ = 0
