@@ -1,8 +1,81 @@
 -- The limits of an operation, and what it weighs.
-use Rattle.std.specs.Prelude.{ℕ, ◌+◌, ◌-◌, ◌/◌, ◌≤◌, List, length}
+use Rattle.std.specs.Prelude.{ℕ, ◌+◌, ◌-◌, ◌/◌, ◌≤◌, List, length, Option, Some, None, Bool, true, false}
 use Rattle.std.specs.List.{AllByRecursion}
 use Rattle.sea_object.specs.declared.op.Op.{Op}
-use Rattle.sea_object.specs.declared.op.Op.TheVariants.{Touch, Write, Zero, Truncate, Remove, SetAttr, RmAttr, RmAttrs, OmapSetKeys, OmapRmKeys, OmapRmKeyRange, OmapClear, Read, OmapList, List as ListNames}
+use Rattle.sea_object.specs.declared.op.Op.TheVariants.{Touch, Write, Zero, Truncate, Remove, SetAttr, RmAttr, RmAttrs, OmapSetKeys, OmapRmKeys, OmapRmKeyRange, OmapClear, Read, Stat, GetAttr, GetAttrs, OmapGet, OmapList, List as ListNames}
+use Rattle.sea_object.specs.declared.op.Kind.{Kind}
+use Rattle.sea_object.specs.declared.op.Kind.TheVariants.{Makes, Puts, Takes, Asks}
+
+-- the name of the object that an operation is on
+abbrev pub name_of : Op → Option (List ℕ)
+name_of (Touch name) = Some name
+name_of (Write name offset bytes) = Some name
+name_of (Zero name offset count) = Some name
+name_of (Truncate name size) = Some name
+name_of (Remove name) = Some name
+name_of (SetAttr name key value) = Some name
+name_of (RmAttr name key) = Some name
+name_of (RmAttrs name) = Some name
+name_of (OmapSetKeys name pairs) = Some name
+name_of (OmapRmKeys name keys) = Some name
+name_of (OmapRmKeyRange name from to bound) = Some name
+name_of (OmapClear name) = Some name
+name_of (Read name offset count) = Some name
+name_of (Stat name) = Some name
+name_of (GetAttr name key) = Some name
+name_of (GetAttrs name) = Some name
+name_of (OmapGet name key) = Some name
+name_of (OmapList name limit after) = Some name
+name_of (ListNames limit after) = None
+
+-- what sort of operation it is
+abbrev pub kind : Op → Kind
+kind (Touch name) = Makes
+kind (Write name offset bytes) = Makes
+kind (Zero name offset count) = Makes
+kind (SetAttr name key value) = Puts
+kind (OmapSetKeys name pairs) = Puts
+kind (Truncate name size) = Takes
+kind (Remove name) = Takes
+kind (RmAttr name key) = Takes
+kind (RmAttrs name) = Takes
+kind (OmapRmKeys name keys) = Takes
+kind (OmapRmKeyRange name from to bound) = Takes
+kind (OmapClear name) = Takes
+kind _ = Asks
+
+-- whether it changes anything
+abbrev pub kind_changes : Kind → Bool
+kind_changes Asks = false
+kind_changes _ = true
+
+abbrev pub changes : Op → Bool
+changes op = kind_changes (kind op)
+
+-- whether it makes its object where there is none
+abbrev pub kind_makes : Kind → Bool
+kind_makes Makes = true
+kind_makes _ = false
+
+abbrev pub makes : Op → Bool
+makes op = kind_makes (kind op)
+
+-- whether it changes an object that must be there
+abbrev pub kind_needs : Kind → Bool
+kind_needs Puts = true
+kind_needs Takes = true
+kind_needs _ = false
+
+abbrev pub needs_object : Op → Bool
+needs_object op = kind_needs (kind op)
+
+-- whether it takes something away, and puts nothing
+abbrev pub kind_takes : Kind → Bool
+kind_takes Takes = true
+kind_takes _ = false
+
+abbrev pub takes : Op → Bool
+takes op = kind_takes (kind op)
 
 -- a range that an object can have, of one byte or more
 abbrev pub IsWritten : ℕ → ℕ → Type 0
@@ -57,3 +130,7 @@ key_weight (OmapSetKeys name pairs) = length pairs
 key_weight (OmapRmKeys name keys) = length keys
 key_weight (OmapRmKeyRange name from to bound) = bound
 key_weight _ = 0
+
+-- an operation that may stand in a request
+abbrev pub IsWithinLimits : Op → Type 0
+IsWithinLimits op = HasGoodRange op × HasGoodValues op

@@ -1,6 +1,8 @@
 //! Operations on objects, and the limits of each.
 ghost use Rattle.std.specs.Prelude.{◌≡◌, ◌↔◌, ◌+◌, ◌^◌, ◌≤◌, ◌<◌, IsTrue, IfOk};
 ghost use Rattle.sea_object.specs.Op.{HasGoodRange, HasGoodValues, blocks_touched, data_blocks, key_weight};
+ghost use Rattle.sea_object.specs.Op.{kind, kind_changes, name_of};
+ghost use Rattle.std.specs.Option.{option_copied};
 
 use sea_base::{Data, Duplicate, Key, Name, Names, NoMemory, Pairs, Sequence};
 
@@ -89,10 +91,80 @@ pub enum Op {
     List { limit: u32, after: Option<Name> },
 }
 
+/// What sort of operation it is.
+#[derive(Clone, Copy, Debug, PartialEq, Eq)]
+pub enum Kind {
+    /// It makes its object where there is none, and may write into it.
+    Makes,
+    /// It puts something to an object that must be there.
+    Puts,
+    /// It takes something from an object that must be there.
+    Takes,
+    /// It changes nothing.
+    Asks,
+}
+
+impl Kind {
+    /// Whether such an operation changes anything.
+    pub fn changes(self) -> bool
+        ensures { result ≡ kind_changes self }
+    {
+        match self {
+            Kind::Asks => false,
+            Kind::Makes | Kind::Puts | Kind::Takes => true,
+        }
+    }
+}
+
 /// The operations of a request, in order.
 pub type Ops = Sequence<Op>;
 
 impl Op {
+    /// The name of the object that the operation is on. A listing of names is on none.
+    pub fn name(&self) -> Option<&Name>
+        ensures { option_copied result ≡ name_of self.now }
+    {
+        match self {
+            Op::Touch { name }
+            | Op::Write { name, .. }
+            | Op::Zero { name, .. }
+            | Op::Truncate { name, .. }
+            | Op::Remove { name }
+            | Op::SetAttr { name, .. }
+            | Op::RmAttr { name, .. }
+            | Op::RmAttrs { name }
+            | Op::OmapSetKeys { name, .. }
+            | Op::OmapRmKeys { name, .. }
+            | Op::OmapRmKeyRange { name, .. }
+            | Op::OmapClear { name }
+            | Op::Read { name, .. }
+            | Op::Stat { name }
+            | Op::GetAttr { name, .. }
+            | Op::GetAttrs { name }
+            | Op::OmapGet { name, .. }
+            | Op::OmapList { name, .. } => Some(name),
+            Op::List { .. } => None,
+        }
+    }
+
+    /// What sort of operation it is.
+    pub fn kind(&self) -> Kind
+        ensures { result ≡ kind self.now }
+    {
+        match self {
+            Op::Touch { .. } | Op::Write { .. } | Op::Zero { .. } => Kind::Makes,
+            Op::SetAttr { .. } | Op::OmapSetKeys { .. } => Kind::Puts,
+            Op::Truncate { .. }
+            | Op::Remove { .. }
+            | Op::RmAttr { .. }
+            | Op::RmAttrs { .. }
+            | Op::OmapRmKeys { .. }
+            | Op::OmapRmKeyRange { .. }
+            | Op::OmapClear { .. } => Kind::Takes,
+            _ => Kind::Asks,
+        }
+    }
+
     /// Whether offsets, lengths and numbers are within their limits.
     pub fn has_good_range(&self) -> bool
         ensures { IsTrue result ↔ HasGoodRange self.now }
@@ -183,4 +255,93 @@ fn is_written(offset: u32, len: usize) -> bool
     ensures { IsTrue result ↔ ((1 ≤ len) × (offset + len ≤ 16777216)) }
 {
     1 <= len && len <= OBJECT_BYTES as usize && offset as usize + len <= OBJECT_BYTES as usize
+}
+
+impl Duplicate for Op {
+    fn copy(&self) -> Result<Op, NoMemory> {
+        match self {
+            Op::Touch { name } => Ok(Op::Touch { name: name.copy()? }),
+            Op::Write {
+                name,
+                offset,
+                bytes,
+            } => Ok(Op::Write {
+                name: name.copy()?,
+                offset: *offset,
+                bytes: bytes.copy()?,
+            }),
+            Op::Zero {
+                name,
+                offset,
+                length,
+            } => Ok(Op::Zero {
+                name: name.copy()?,
+                offset: *offset,
+                length: *length,
+            }),
+            Op::Truncate { name, size } => Ok(Op::Truncate {
+                name: name.copy()?,
+                size: *size,
+            }),
+            Op::Remove { name } => Ok(Op::Remove { name: name.copy()? }),
+            Op::SetAttr { name, key, value } => Ok(Op::SetAttr {
+                name: name.copy()?,
+                key: key.copy()?,
+                value: value.copy()?,
+            }),
+            Op::RmAttr { name, key } => Ok(Op::RmAttr {
+                name: name.copy()?,
+                key: key.copy()?,
+            }),
+            Op::RmAttrs { name } => Ok(Op::RmAttrs { name: name.copy()? }),
+            Op::OmapSetKeys { name, pairs } => Ok(Op::OmapSetKeys {
+                name: name.copy()?,
+                pairs: pairs.copy()?,
+            }),
+            Op::OmapRmKeys { name, keys } => Ok(Op::OmapRmKeys {
+                name: name.copy()?,
+                keys: keys.copy()?,
+            }),
+            Op::OmapRmKeyRange {
+                name,
+                from,
+                to,
+                bound,
+            } => Ok(Op::OmapRmKeyRange {
+                name: name.copy()?,
+                from: from.copy()?,
+                to: to.copy()?,
+                bound: *bound,
+            }),
+            Op::OmapClear { name } => Ok(Op::OmapClear { name: name.copy()? }),
+            Op::Read {
+                name,
+                offset,
+                length,
+            } => Ok(Op::Read {
+                name: name.copy()?,
+                offset: *offset,
+                length: *length,
+            }),
+            Op::Stat { name } => Ok(Op::Stat { name: name.copy()? }),
+            Op::GetAttr { name, key } => Ok(Op::GetAttr {
+                name: name.copy()?,
+                key: key.copy()?,
+            }),
+            Op::GetAttrs { name } => Ok(Op::GetAttrs { name: name.copy()? }),
+            Op::OmapGet { name, key } => Ok(Op::OmapGet {
+                name: name.copy()?,
+                key: key.copy()?,
+            }),
+            Op::OmapList { name, limit, after } => Ok(Op::OmapList {
+                name: name.copy()?,
+                limit: *limit,
+                after: after.copy()?,
+            }),
+            Op::List { limit, after } => Ok(Op::List {
+                limit: *limit,
+                after: after.copy()?,
+            }),
+        }
+    }
 }

@@ -1,5 +1,5 @@
 //! What a request is answered.
-use sea_base::{Data, Names, Pairs, Sequence};
+use sea_base::{Data, Duplicate, Names, NoMemory, Pairs, Sequence};
 
 /// What an operation answers.
 #[derive(Debug, PartialEq, Drop)]
@@ -53,4 +53,31 @@ pub enum Reply {
         /// The segments that are empty.
         empty: u32,
     },
+}
+
+impl Duplicate for Item {
+    fn copy(&self) -> Result<Item, NoMemory> {
+        match self {
+            Item::Unit => Ok(Item::Unit),
+            Item::Absent => Ok(Item::Absent),
+            Item::Bytes(bytes) => Ok(Item::Bytes(bytes.copy()?)),
+            Item::Number(number) => Ok(Item::Number(*number)),
+            Item::Names(names) => Ok(Item::Names(names.copy()?)),
+            Item::Pairs(pairs) => Ok(Item::Pairs(pairs.copy()?)),
+        }
+    }
+}
+
+impl Duplicate for Reply {
+    fn copy(&self) -> Result<Reply, NoMemory> {
+        match self {
+            Reply::Done(items) => Ok(Reply::Done(items.copy()?)),
+            Reply::Refused { op, why } => Ok(Reply::Refused { op: *op, why: *why }),
+            Reply::Full { need, rest, empty } => Ok(Reply::Full {
+                need: *need,
+                rest: *rest,
+                empty: *empty,
+            }),
+        }
+    }
 }

@@ -1,12 +1,16 @@
 //! Requests, and the limits of each.
-ghost use Rattle.std.specs.Prelude.{◌≡◌, IfOk, IfErr, OnOk};
+ghost use Rattle.std.specs.Prelude.{◌≡◌, ◌&&◌, not, IfOk, IfErr, OnOk};
+ghost use Rattle.sea_object.specs.Op.{changes, takes};
+ghost use Rattle.sea_object.specs.Refusal.{Refuses};
+ghost use Rattle.sea_object.specs.Request.{IsRequest};
 
-use crate::{Op, Ops};
+use crate::{Kind, Op, Ops};
+use sea_base::{Duplicate, NoMemory};
 use std::marker::Model;
 use thiserror::Error;
 
 /// A request: 1 to 16 operations within their limits, which contracts see as the list of them.
-#[derive(Debug, PartialEq, Drop)]
+#[derive(Debug, Drop)]
 pub struct Request {
     ops: Ops,
 }
@@ -38,4 +42,102 @@ pub enum RequestFault {
     /// The changes of keys weigh more than 32.
     #[error("too many keys")]
     TooManyKeys,
+}
+
+impl Model for Request {
+    ghost use Rattle.std.specs.Prelude.{List};
+    ghost use Rattle.sea_object.specs.declared.op.Op.{Op};
+    ghost use Rattle.sea_object.specs.Request.{IsRequest};
+
+    ghost Value = { List Op };
+
+    ghost view = { λ r. r.ops };
+
+    ghost invariant = { λ r. IsRequest r.ops };
+}
+
+impl Request {
+    ghost use Rattle.sea_object.specs.Request.{frees};
+
+    /// The request of these operations.
+    pub fn new(ops: Ops) -> Result<Request, RequestFault>
+        ensures ok { IfOk result (λ request. (request ≡ ops) × IsRequest request) }
+        ensures refused { IfErr result (Refuses ops) }
+    {
+        check(ops.items())?;
+        Ok(Request { ops })
+    }
+
+    /// The operations, in order.
+    pub fn ops(&self) -> &[Op]
+        ensures ops { result.now ≡ self.now }
+        ensures request { IsRequest self.now }
+    {
+        self.ops.items()
+    }
+
+    /// Whether some operation takes something away, and each that changes anything does so.
+    pub fn frees(&self) -> bool
+        ensures { result ≡ frees self.now }
+    {
+        let ops = self.ops.items();
+        ops.iter().any(takes) && !ops.iter().any(adds)
+    }
+}
+
+fn takes(op: &Op) -> bool
+    ensures { result ≡ takes op.now }
+{
+    op.kind() == Kind::Takes
+}
+
+fn adds(op: &Op) -> bool
+    ensures { result ≡ (changes op.now && not (takes op.now)) }
+{
+    let kind = op.kind();
+    kind.changes() && kind != Kind::Takes
+}
+
+// Whether the operations may be a request.
+fn check(ops: &[Op]) -> Result<(), RequestFault>
+    ensures ok { OnOk result (IsRequest ops.now) }
+    ensures refused { IfErr result (Refuses ops.now) }
+{
+    if ops.is_empty() {
+        return Err(RequestFault::Empty);
+    }
+    if ops.len() > 16 {
+        return Err(RequestFault::TooManyOps);
+    }
+    let mut blocks = 0;
+    let mut keys: u64 = 0;
+    for (index, op) in ops.iter().enumerate() {
+        if !op.has_good_range() {
+            return Err(RequestFault::BadRange {
+                op: index as u32 + 1,
+            });
+        }
+        if !op.has_good_values() {
+            return Err(RequestFault::BadValue {
+                op: index as u32 + 1,
+            });
+        }
+        blocks += op.data_blocks();
+        keys = keys.saturating_add(op.key_weight());
+    }
+    if blocks > 64 {
+        return Err(RequestFault::TooManyBlocks);
+    }
+    if keys > 32 {
+        return Err(RequestFault::TooManyKeys);
+    }
+    Ok(())
+}
+
+impl Duplicate for Request {
+    fn copy(&self) -> Result<Request, NoMemory> {
+        Ok(Request {
+            ops: self.ops.copy()?,
+        })
+    }
 }
