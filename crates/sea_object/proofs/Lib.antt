@@ -1,2 +1,9 @@
+pub mod Contents
+pub mod Copies
 pub mod Lookups
+pub mod Order
+pub mod Results
+pub mod Scans
+pub mod Shown
+pub mod Sorts
 pub mod Writes

@@ -54,7 +54,7 @@ unfolding before
 length-before offset old =
     length-take offset (old ++ replicate (offset - length old) 0) ∙ omega (arith, length-append old (replicate (offset - length old) 0), length-replicate {A = ℕ} (offset - length old) 0)
 
-length-written : (offset : ℕ) (new old : List ℕ) → length (written offset new old) ≡ offset + length new + (length old - (offset + length new))
+pub length-written : (offset : ℕ) (new old : List ℕ) → length (written offset new old) ≡ offset + length new + (length old - (offset + length new))
 unfolding before
 length-written offset new old =
     let b : length (before offset old) ≡ offset = length-before offset old in

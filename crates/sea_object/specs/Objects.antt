@@ -2,6 +2,8 @@
 use Rattle.std.specs.Prelude.{ℕ, List, [], ◌∷◌, Option, Some, None, Bool, true, ◌&&◌, not, filter, take, map as each, length, unwrap_or, refl}
 use Rattle.std.specs.Ordering.{nat_cmp, is_lt, is_le}
 use Rattle.std.specs.Cmp.Lexicographic.{slice_cmp}
+use Rattle.std.specs.declared.ops.Bound.{Bound}
+use Rattle.std.specs.declared.ops.Bound.TheVariants.{Excluded, Unbounded}
 use Rattle.std.specs.FinMap as map
 use Rattle.std.specs.Coded.{Coded, code_by, coded×, coded_ℕ, coded_list}
 
@@ -29,7 +31,7 @@ with_object objects name None = map.remove objects name
 with_object objects name (Some object) = map.insert objects name object
 
 -- the pairs put in order, of which the last of one key stays
-abbrev pub with_pairs : List (List ℕ × List ℕ) → Values → Values
+abbrev pub with_pairs : {X : Type 0} → List (List ℕ × X) → map.FinMap (slice_cmp nat_cmp) X → map.FinMap (slice_cmp nat_cmp) X
 with_pairs [] values = values
 with_pairs (pair ∷ pairs) values = with_pairs pairs (map.insert values pair.0 pair.1)
 
@@ -42,6 +44,11 @@ without_keys (key ∷ keys) values = without_keys keys (map.remove values key)
 abbrev pub is_after : Option (List ℕ) → List ℕ → Bool
 is_after None key = true
 is_after (Some other) key = is_lt (slice_cmp nat_cmp other key)
+
+-- the same as the bound that a range begins at
+abbrev pub bound_behind : Option (List ℕ) → Bound (List ℕ)
+bound_behind None = Unbounded
+bound_behind (Some other) = Excluded other
 
 -- whether a key is this one or stands behind it
 abbrev pub is_from : List ℕ → List ℕ → Bool

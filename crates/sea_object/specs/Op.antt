@@ -69,6 +69,15 @@ kind_needs _ = false
 abbrev pub needs_object : Op → Bool
 needs_object op = kind_needs (kind op)
 
+-- whether it makes or puts something
+abbrev pub kind_adds : Kind → Bool
+kind_adds Makes = true
+kind_adds Puts = true
+kind_adds _ = false
+
+abbrev pub adds : Op → Bool
+adds op = kind_adds (kind op)
+
 -- whether it takes something away, and puts nothing
 abbrev pub kind_takes : Kind → Bool
 kind_takes Takes = true

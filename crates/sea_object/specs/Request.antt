@@ -2,7 +2,7 @@
 use Rattle.std.specs.Prelude.{◌≤◌, List, length, sum_by, Bool, ◌&&◌, not}
 use Rattle.std.specs.List.{AllByRecursion, list_any}
 use Rattle.sea_object.specs.declared.op.Op.{Op}
-use Rattle.sea_object.specs.Op.{IsWithinLimits, data_blocks, key_weight, changes, takes}
+use Rattle.sea_object.specs.Op.{IsWithinLimits, data_blocks, key_weight, adds, takes}
 
 -- 1 to 16 operations, each within its limits, that write 64 blocks at most and whose changes of keys
 -- weigh 32 at most
@@ -15,4 +15,4 @@ pub record IsRequest (ops : List Op) : Type 0 where
 
 -- whether some operation takes something away, and each that changes anything does so
 abbrev pub frees : List Op → Bool
-frees ops = list_any takes ops && not (list_any (λ op. changes op && not (takes op)) ops)
+frees ops = list_any takes ops && not (list_any adds ops)

@@ -1,5 +1,5 @@
 //! The bytes of an object.
-ghost use Rattle.std.specs.Prelude.{◌≡◌, ◌+◌, ◌≤◌, length, [], IfOk, OnOk, OnErr};
+ghost use Rattle.std.specs.Prelude.{◌≡◌, ◌+◌, ◌≤◌, length, max, [], IfOk, OnOk, OnErr};
 ghost use Rattle.sea_object.specs.Answer.{resized, written};
 ghost use Rattle.sea_object.specs.Undo.{CanRestore, restored_content};
 
@@ -62,19 +62,31 @@ impl Content {
     pub(crate) fn write(&mut self, offset: usize, source: &[u8]) -> Result<Earlier, NoMemory>
         requires { offset + length source.now ≤ 16777216 }
         ensures ok { OnOk result (content self.new ≡ written offset source.now (content self.old)) }
-        ensures earlier { IfOk result (λ earlier. CanRestore earlier self.new × (restored_content earlier self.new ≡ self.old)) }
+        ensures can { IfOk result (λ earlier. CanRestore earlier self.new) }
+        ensures earlier { IfOk result (λ earlier. restored_content earlier self.new ≡ self.old) }
         ensures err { OnErr result (self.new ≡ self.old) }
     {
         let size = self.size;
-        let end = offset + source.len();
-        let alloc = *self.bytes.allocator();
-        let saved = if offset <= size {
-            patch::write_at(&mut self.bytes, offset, source)?
-        } else {
-            let filled = patch::behind_zeros(alloc, offset - size, source)?;
-            patch::write_at(&mut self.bytes, size, filled.as_slice())?
-        };
-        self.size = size.max(end);
+        if offset <= size {
+            return self.overwrite(offset, source);
+        }
+        let filled = patch::behind_zeros(*self.bytes.allocator(), offset - size, source)?;
+        self.overwrite(size, filled.as_slice())
+    }
+
+    // The same from an offset on that is not past the end.
+    fn overwrite(&mut self, offset: usize, source: &[u8]) -> Result<Earlier, NoMemory>
+        requires within { offset ≤ self.old.size }
+        requires few { offset + length source.now ≤ 16777216 }
+        ensures bytes { OnOk result (self.new.bytes ≡ written offset source.now self.old.bytes) }
+        ensures size { OnOk result (self.new.size ≡ max self.old.size (offset + length source.now)) }
+        ensures can { IfOk result (λ earlier. CanRestore earlier self.new) }
+        ensures earlier { IfOk result (λ earlier. restored_content earlier self.new ≡ self.old) }
+        ensures err { OnErr result (self.new ≡ self.old) }
+    {
+        let size = self.size;
+        let saved = patch::write_at(&mut self.bytes, offset, source)?;
+        self.size = size.max(offset + source.len());
         Ok(Earlier {
             size,
             replaced: Some(saved),
@@ -86,7 +98,8 @@ impl Content {
     pub(crate) fn resize(&mut self, size: usize) -> Result<Earlier, NoMemory>
         requires { size ≤ 16777216 }
         ensures ok { OnOk result (content self.new ≡ resized size (content self.old)) }
-        ensures earlier { IfOk result (λ earlier. CanRestore earlier self.new × (restored_content earlier self.new ≡ self.old)) }
+        ensures can { IfOk result (λ earlier. CanRestore earlier self.new) }
+        ensures earlier { IfOk result (λ earlier. restored_content earlier self.new ≡ self.old) }
         ensures err { OnErr result (self.new ≡ self.old) }
     {
         let old = self.size;

@@ -1,6 +1,7 @@
 //! Requests, and the limits of each.
-ghost use Rattle.std.specs.Prelude.{◌≡◌, ◌&&◌, not, IfOk, IfErr, OnOk};
-ghost use Rattle.sea_object.specs.Op.{changes, takes};
+ghost use Rattle.std.specs.Prelude.{◌≡◌, IfOk, IfErr, OnOk};
+ghost use Rattle.std.specs.List.{list_any};
+ghost use Rattle.sea_object.specs.Op.{adds, takes};
 ghost use Rattle.sea_object.specs.Refusal.{Refuses};
 ghost use Rattle.sea_object.specs.Request.{IsRequest};
 
@@ -81,21 +82,42 @@ impl Request {
         ensures { result ≡ frees self.now }
     {
         let ops = self.ops.items();
-        ops.iter().any(takes) && !ops.iter().any(adds)
+        some_takes(ops) && !some_adds(ops)
     }
+}
+
+fn some_takes(ops: &[Op]) -> bool
+    ensures { result ≡ list_any takes ops.now }
+{
+    for op in ops {
+        if takes(op) {
+            return true;
+        }
+    }
+    false
+}
+
+fn some_adds(ops: &[Op]) -> bool
+    ensures { result ≡ list_any adds ops.now }
+{
+    for op in ops {
+        if adds(op) {
+            return true;
+        }
+    }
+    false
 }
 
 fn takes(op: &Op) -> bool
     ensures { result ≡ takes op.now }
 {
-    op.kind() == Kind::Takes
+    matches!(op.kind(), Kind::Takes)
 }
 
 fn adds(op: &Op) -> bool
-    ensures { result ≡ (changes op.now && not (takes op.now)) }
+    ensures { result ≡ adds op.now }
 {
-    let kind = op.kind();
-    kind.changes() && kind != Kind::Takes
+    matches!(op.kind(), Kind::Makes | Kind::Puts)
 }
 
 // Whether the operations may be a request.

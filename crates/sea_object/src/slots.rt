@@ -7,7 +7,7 @@ ghost use Rattle.sea_object.specs.Objects.{first_names};
 ghost use Rattle.sea_object.specs.Op.{IsWithinLimits, name_of};
 ghost use Rattle.sea_object.specs.Undo.{CanStepBack, CanTakeBack, MayHalt, MayStop, stepped_back, taken_back};
 
-use crate::named::copy_named;
+use crate::named::{behind, copy_named};
 use crate::slot::{change_slot, undo_slot};
 use crate::undo::{Halt, Step, Stop};
 use crate::{Item, Items, Object, Op};
@@ -62,16 +62,13 @@ impl Slots {
 
     /// The first names in order, of those behind one, `limit` of them at most.
     pub(crate) fn names(&self, limit: usize, after: Option<&Name>) -> Result<Names, NoMemory>
-        ensures { IfOk result (λ names. names ≡ first_names limit (option_copied after) (shown_objects self.now)) }
+        ensures { IfOk result (λ names. names ≡ first_names limit (option_copied after.entry) (shown_objects self.now)) }
     {
         let mut names = Names::new(self.alloc);
-        let start = match after {
-            Some(name) => Bound::Excluded(name.copy()?),
-            None => Bound::Unbounded,
-        };
+        let start = behind(after)?;
         for (name, slot) in self.slots.range((start, Bound::Unbounded)) {
             if names.items().len() >= limit {
-                break;
+                return Ok(names);
             }
             if slot.is_some() {
                 names.push(name.copy()?)?;

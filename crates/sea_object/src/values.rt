@@ -1,9 +1,12 @@
 //! Values under keys.
 ghost use Rattle.std.specs.Prelude.{◌≡◌, ◌<◌, ◌^◌, IfOk, OnOk, OnErr};
 ghost use Rattle.std.specs.Option.{option_copied};
+ghost use Rattle.std.specs.Ordering.{nat_cmp};
+ghost use Rattle.std.specs.Cmp.Lexicographic.{slice_cmp};
+ghost use Rattle.std.specs.declared.cmp.Ordering.TheVariants.{Less};
 ghost use Rattle.sea_object.specs.Objects.{first_pairs, keys_between, with_pairs, without_keys};
 
-use crate::named::copy_named;
+use crate::named::{behind, copy_named, is_below};
 use sea_base::{Data, Duplicate, Key, Names, NoMemory, Pairs};
 use std::alloc::Global;
 use std::collections::BTreeMap;
@@ -58,16 +61,13 @@ impl Values {
 
     /// The first pairs in order, of the keys behind one, `limit` of them at most.
     pub fn first(&self, limit: usize, after: Option<&Key>) -> Result<Pairs, NoMemory>
-        ensures { IfOk result (λ pairs. pairs ≡ first_pairs limit (option_copied after) self.now) }
+        ensures { IfOk result (λ pairs. pairs ≡ first_pairs limit (option_copied after.entry) self.now) }
     {
         let mut pairs = Pairs::new(self.alloc);
-        let start = match after {
-            Some(key) => Bound::Excluded(key.copy()?),
-            None => Bound::Unbounded,
-        };
+        let start = behind(after)?;
         for (key, value) in self.pairs.range((start, Bound::Unbounded)) {
             if pairs.items().len() >= limit {
-                break;
+                return Ok(pairs);
             }
             pairs.push((key.copy()?, value.copy()?))?;
         }
@@ -83,14 +83,24 @@ impl Values {
     ) -> Result<Names, NoMemory>
         ensures { IfOk result (λ keys. keys ≡ keys_between from.now to.now bound self.now) }
     {
-        let mut keys = Names::new(self.alloc);
-        if from >= to {
-            return Ok(keys);
+        if is_below(from, to) {
+            self.keys_in(from, to, bound)
+        } else {
+            Ok(Names::new(self.alloc))
         }
-        let range = (Bound::Included(from.copy()?), Bound::Excluded(to.copy()?));
-        for (key, _) in self.pairs.range(range) {
+    }
+
+    // The same where there may be such keys.
+    fn keys_in(&self, from: &Key, to: &Key, bound: usize) -> Result<Names, NoMemory>
+        requires { slice_cmp nat_cmp from.now to.now ≡ Less }
+        ensures { IfOk result (λ keys. keys ≡ keys_between from.now to.now bound self.now) }
+    {
+        let mut keys = Names::new(self.alloc);
+        let start = Bound::Included(from.copy()?);
+        let end = Bound::Excluded(to.copy()?);
+        for (key, _) in self.pairs.range((start, end)) {
             if keys.items().len() >= bound {
-                break;
+                return Ok(keys);
             }
             keys.push(key.copy()?)?;
         }
