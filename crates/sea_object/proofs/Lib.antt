@@ -1,5 +1,6 @@
 pub mod Contents
 pub mod Copies
+pub mod Listing
 pub mod Lookups
 pub mod Order
 pub mod Results

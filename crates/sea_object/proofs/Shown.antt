@@ -6,7 +6,7 @@ use Rattle.std.specs.Option.{option_flatten}
 use Rattle.std.specs.Ordering.{nat_cmp, is_lt, is_eq, eq_by_cmp}
 use Rattle.std.specs.declared.cmp.Ordering.TheVariants.{Less, Equal, Greater}
 use Rattle.std.specs.Cmp.Lexicographic.{slice_cmp, nat_list_cmp_total}
-use Rattle.std.specs.FinMap.{get, insert, remove, entries, entries_sorted, get-empty, get-insert, get-remove, get-entries, same_map}
+use Rattle.std.specs.FinMap.{empty, get, insert, remove, entries, entries_sorted, get-empty, get-insert, get-remove, get-entries, same_map}
 use Rattle.std.specs.FinMap.Entries.{find, below_all, is_sorted, same_entries}
 use Rattle.std.proofs.lemmas.Map.Lookups.{exact_bytes}
 use Rattle.std.proofs.lemmas.Map.Views.{tells_apart}
@@ -142,3 +142,6 @@ live-filter p [] = refl
 live-filter p ((name, None) ∷ es) = passed (p name) name (filter (λ e. p e.0) es) ∙ live-filter p es
 live-filter p ((name, Some held) ∷ es) =
     taken (p name) name held (filter (λ e. p e.0) es) ∙ ap (λ rest. cond (p name) (name ∷ rest) rest) (live-filter p es)
+
+pub shown-empty : shown_objects empty ≡ empty
+shown-empty = same_map nat_list_cmp_total exact_bytes _ _ (λ q. get-shown empty q ∙ ap seen (get-empty by_bytes q) ∙ sym (get-empty by_bytes q))

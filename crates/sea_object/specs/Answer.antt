@@ -101,10 +101,19 @@ abbrev pub effect : Op → ObjectMap → ObjectMap
 effect op objects =
     cond (changes op) (put_object (name_of op) (object_after op (object_of (name_of op) objects)) objects) objects
 
+-- what an operation on no object answers
+abbrev pub listed : Op → ObjectMap → Item
+listed (ListNames limit after) objects = Names (first_names limit after objects)
+listed _ objects = Nothing
+
+-- what an operation answers, on the object of a name or on none
+abbrev pub item_for : Option (List ℕ) → Op → ObjectMap → Item
+item_for None op objects = listed op objects
+item_for (Some name) op objects = item_at op (map.get objects name)
+
 -- what an operation answers
 abbrev pub item : Op → ObjectMap → Item
-item (ListNames limit after) objects = Names (first_names limit after objects)
-item op objects = item_at op (object_of (name_of op) objects)
+item op objects = item_for (name_of op) op objects
 
 -- why an operation is refused, if it is
 abbrev pub refusal : Op → ObjectMap → Option Why

@@ -90,9 +90,7 @@ impl Object {
             Op::Read { offset, length, .. } => self.read(*offset as usize, *length as usize),
             Op::Stat { .. } => Ok(Item::Number(self.bytes().len() as u32)),
             Op::GetAttr { key, .. } => value_of(&self.attributes, key),
-            Op::GetAttrs { .. } => {
-                Ok(Item::Pairs(self.attributes.first(self.attributes.len(), None)?))
-            }
+            Op::GetAttrs { .. } => Ok(Item::Pairs(self.attributes.all()?)),
             Op::OmapGet { key, .. } => value_of(&self.omap, key),
             Op::OmapList { limit, after, .. } => {
                 Ok(Item::Pairs(self.omap.first(*limit as usize, after.as_ref())?))

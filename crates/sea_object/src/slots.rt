@@ -2,19 +2,20 @@
 ghost use Rattle.std.specs.Prelude.{◌≡◌, ◌++◌, ◌+◌, ◌<◌, ◌^◌, None, length, IfOk, IfErr, OnOk, OnErr};
 ghost use Rattle.std.specs.List.{AllByRecursion};
 ghost use Rattle.std.specs.Option.{option_copied, option_flatten};
-ghost use Rattle.sea_object.specs.Answer.{effect, effects, first_refused, item, item_at, items, object_after, refusal, refusal_at};
+ghost use Rattle.sea_object.specs.Answer.{effect, effects, first_refused, item, item_at, items, listed, object_after, refusal, refusal_at};
 ghost use Rattle.sea_object.specs.Objects.{first_names};
 ghost use Rattle.sea_object.specs.Op.{IsWithinLimits, name_of};
-ghost use Rattle.sea_object.specs.Undo.{CanStepBack, CanTakeBack, MayHalt, MayStop, stepped_back, taken_back};
+ghost use Rattle.sea_object.specs.Undo.{CanStepBack, CanTakeBack, CanUndoFound, MayHalt, MayStop, put_back, stepped_back, taken_back};
 
 use crate::named::{behind, copy_named};
 use crate::slot::{change_slot, undo_slot};
-use crate::undo::{Halt, Step, Stop};
+use crate::undo::{Halt, Step, Stop, Undo};
 use crate::{Item, Items, Object, Op};
 use sea_base::{Duplicate, Name, Names, NoMemory};
 use std::alloc::Global;
 use std::collections::BTreeMap;
 use std::marker::Model;
+use std::mem::drop;
 use std::ops::Bound;
 
 /// Slots under names, each of which has an object, or is empty while one may come back.
@@ -81,12 +82,20 @@ impl Slots {
     pub(crate) fn item(&self, op: &Op) -> Result<Item, NoMemory>
         ensures { IfOk result (λ made. made ≡ item op.now (shown_objects self.now)) }
     {
-        if let Op::List { limit, after } = op {
-            return Ok(Item::Names(self.names(*limit as usize, after.as_ref())?));
-        }
         match op.name() {
             Some(name) => self.item_of(name, op),
-            None => Ok(nothing_of(op)),
+            None => self.listed(op),
+        }
+    }
+
+    fn listed(&self, op: &Op) -> Result<Item, NoMemory>
+        ensures { IfOk result (λ made. made ≡ listed op.now (shown_objects self.now)) }
+    {
+        match op {
+            Op::List { limit, after } => {
+                Ok(Item::Names(self.names(*limit as usize, after.as_ref())?))
+            }
+            _ => Ok(Item::Unit),
         }
     }
 
@@ -184,15 +193,26 @@ impl Slots {
     {
         match step {
             Step::Unchanged => {}
-            Step::Added => {
-                self.slots.remove(name);
-            }
-            Step::Changed(undo) => {
-                if let Some(slot) = self.slots.get_mut(name) {
-                    undo_slot(slot, undo);
-                }
-            }
+            Step::Added => self.remove(name),
+            Step::Changed(undo) => self.undo(name, undo),
         }
+    }
+
+    fn undo(&mut self, name: &Name, undo: Undo)
+        requires { CanUndoFound undo (map.get self.old name.now) }
+        ensures { self.new ≡ put_back undo name.now self.old (map.get self.old name.now) }
+    {
+        match self.slots.get_mut(name) {
+            Some(slot) => undo_slot(slot, undo),
+            None => drop(undo),
+        }
+    }
+
+    // Takes a slot away.
+    fn remove(&mut self, name: &Name)
+        ensures { self.new ≡ map.remove self.old name.now }
+    {
+        self.slots.remove(name);
     }
 
     /// Gives up the slots of these operations that are empty.
@@ -209,8 +229,9 @@ impl Slots {
     fn tidy_at(&mut self, name: &Name)
         ensures { shown_objects self.new ≡ shown_objects self.old }
     {
-        if self.get(name).is_none() {
-            self.slots.remove(name);
+        match self.get(name) {
+            Some(_) => {}
+            None => self.remove(name),
         }
     }
 }

@@ -59,6 +59,14 @@ impl Values {
         self.pairs.get(key)
     }
 
+    /// All pairs, in order.
+    pub fn all(&self) -> Result<Pairs, NoMemory>
+        ensures { IfOk result (λ pairs. pairs ≡ map.entries self.now) }
+    {
+        let pairs = self.first(self.len(), None)?;
+        Ok(pairs)
+    }
+
     /// The first pairs in order, of the keys behind one, `limit` of them at most.
     pub fn first(&self, limit: usize, after: Option<&Key>) -> Result<Pairs, NoMemory>
         ensures { IfOk result (λ pairs. pairs ≡ first_pairs limit (option_copied after.entry) self.now) }

@@ -1,4 +1,5 @@
-use Rattle.std.proofs.Common.{◌≡◌, true, false, ap, sym, ◌∙◌, take, map as each}
+use Rattle.std.proofs.Common.{◌≡◌, true, false, ap, sym, ◌∙◌, take, [], arith}
+use Rattle.std.proofs.lemmas.List.{take_all}
 use Rattle.std.specs.Prelude.{filter, not, ◌&&◌}
 use Rattle.std.proofs.lemmas.Bool.{false≢true}
 use Rattle.std.specs.FinMap as map
@@ -15,4 +16,4 @@ returns-else-is_below c =
     let from = c.args.from.now in
     let to = c.args.to.now in
     c.new.ensures
-    ∙ sym (ap (take c.args.bound) (filter_none (λ key. is_from from key && not (is_from to key)) (none_between from to (λ less. false≢true (sym c.if-is_below.false ∙ c.is_below.ensures ∙ ap is_lt less))) (map.keys c.args.self.now)))
+    ∙ sym (ap (take c.args.bound) (filter_none (λ key. is_from from key && not (is_from to key)) (none_between from to (λ less. false≢true (sym c.if-is_below.false ∙ c.is_below.ensures ∙ ap is_lt less))) (map.keys c.args.self.now)) ∙ take_all c.args.bound [] (omega arith))
