@@ -15,13 +15,13 @@ cut_behind p r m k is = ap (λ (n : ℕ). take n (p ++ r)) is ∙ take-append-ad
 -- what is left of the front behind an offset
 rest_cut : (end size : ℕ) (old : List ℕ) → drop end (take size old) ≡ take (size - end) (drop end old)
 rest_cut end size old = elim (cases_lt size end) [
-    | inl past ↦
+  | inl past ↦
       let none : size - end ≡ 0 = omega arith in
       drop_all end (take size old) (omega (arith, length-take size old)) ∙ ap (λ (k : ℕ). take k (drop end old)) (sym none)
-    | inr within ↦
+  | inr within ↦
       let parts : size ≡ end + (size - end) = omega arith in
       ap (λ (k : ℕ). drop end (take k old)) parts ∙ drop-take end (size - end) old
-  ]
+]
 
 -- a write that begins within the size
 pub content_within : (offset size m : ℕ) (new old : List ℕ) → offset ≤ size → size ≤ length old → m ≡ max size (offset + length new) → take m (written offset new old) ≡ written offset new (take size old)
@@ -34,8 +34,8 @@ content_within offset size m new old le long is =
     ap (take m) (written_within offset new old (omega arith))
     ∙ cut_behind (front ++ new) (drop end old) m (size - end) (omega arith)
     ∙ sym (written_within offset new (take size old) (omega arith)
-        ∙ ap (λ (t : List ℕ). t ++ new ++ drop end (take size old)) (take-take offset size old le)
-        ∙ ap (λ (t : List ℕ). front ++ new ++ t) (rest_cut end size old))
+    ∙ ap (λ (t : List ℕ). t ++ new ++ drop end (take size old)) (take-take offset size old le)
+    ∙ ap (λ (t : List ℕ). front ++ new ++ t) (rest_cut end size old))
 
 -- a write that begins past the size, with the zeros before it
 pub content_past : (offset size m : ℕ) (new old : List ℕ) → size ≤ offset → size ≤ length old → m ≡ max size (size + length (replicate (offset - size) 0 ++ new)) → take m (written size (replicate (offset - size) 0 ++ new) old) ≡ written offset new (take size old)
@@ -53,9 +53,9 @@ content_past offset size m new old le long is =
     ∙ take_at (front ++ filled) (drop (size + length filled) old) m (omega arith)
     ∙ sym (append_assoc front zeros new)
     ∙ sym (ap (λ (k : ℕ). take offset (front ++ replicate k 0) ++ new ++ drop (offset + length new) front) gap
-        ∙ ap (λ (t : List ℕ). t ++ new ++ drop (offset + length new) front) (take_all offset (front ++ zeros) (omega arith))
-        ∙ ap (λ (t : List ℕ). front ++ zeros ++ new ++ t) (drop_all (offset + length new) front (omega arith))
-        ∙ append-nil (front ++ zeros ++ new))
+    ∙ ap (λ (t : List ℕ). t ++ new ++ drop (offset + length new) front) (take_all offset (front ++ zeros) (omega arith))
+    ∙ ap (λ (t : List ℕ). front ++ zeros ++ new ++ t) (drop_all (offset + length new) front (omega arith))
+    ∙ append-nil (front ++ zeros ++ new))
 
 -- bytes filled with zeros to a size
 pub grown : (size old : ℕ) (bytes : List ℕ) → length bytes ≡ old → old ≤ size → written old (replicate (size - old) 0) bytes ≡ resized size bytes

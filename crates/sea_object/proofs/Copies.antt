@@ -30,7 +30,7 @@ get-with_pairs (e ∷ es) m q rises =
     get-with_pairs es (insert m e.0 e.1) q rises.1
     ∙ ap (first_of (find by_bytes q es)) (get-insert nat_list_cmp_total m e.0 e.1 q)
     ∙ one_more (eq_by_cmp by_bytes q e.0) e.1 (find by_bytes q es) (get m q) (λ same.
-        ap (λ k. find by_bytes k es) (tells_apart exact_bytes q e.0 same) ∙ absent e.0 es rises.0)
+    ap (λ k. find by_bytes k es) (tells_apart exact_bytes q e.0 same) ∙ absent e.0 es rises.0)
 
 found_first : {A : Type 0} (o : Option A) → first_of o None ≡ o
 found_first None = refl

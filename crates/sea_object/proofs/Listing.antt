@@ -41,22 +41,22 @@ pub pairs_listed : (es : List (List ℕ × List ℕ)) (values : Values) (start :
 pairs_listed es values start after limit pairs rest rises is begins all few enough =
     let same : entries values ≡ es = ap entries (sym is) ∙ entries_from es rises in
     sym (ap (λ (xs : List (List ℕ × List ℕ)). take limit (filter (λ e. is_after after e.0) xs)) same
-        ∙ ap (take limit) (sym (all ∙ behind es start after begins))
-        ∙ front limit pairs rest few enough)
+    ∙ ap (take limit) (sym (all ∙ behind es start after begins))
+    ∙ front limit pairs rest few enough)
 
 pub keys_listed : (es : List (List ℕ × List ℕ)) (values : Values) (from to : List ℕ) (bound : ℕ) (keys : List (List ℕ)) (rest : List (List ℕ × List ℕ)) → IsStrictlySortedBy (slice_cmp nat_cmp) (keys_of es) → from_entries es ≡ values → keys ++ map (λ e. e.0) rest ≡ map (λ e. e.0) (entries_between (slice_cmp nat_cmp) (Included from) (Excluded to) es) → length keys ≤ bound → Enough bound keys (map (λ e. e.0) rest) → keys ≡ keys_between from to bound values
 keys_listed es values from to bound keys rest rises is all few enough =
     let same : entries values ≡ es = ap entries (sym is) ∙ entries_from es rises in
     sym (ap (λ (xs : List (List ℕ × List ℕ)). take bound (filter (λ key. is_from from key && not (is_from to key)) (map (λ e. e.0) xs))) same
-        ∙ ap (take bound) (sym (all ∙ keys-filter (λ key. is_from from key && not (is_from to key)) es))
-        ∙ front bound keys (map (λ e. e.0) rest) few enough)
+    ∙ ap (take bound) (sym (all ∙ keys-filter (λ key. is_from from key && not (is_from to key)) es))
+    ∙ front bound keys (map (λ e. e.0) rest) few enough)
 
 pub names_listed : (es : List (List ℕ × Option Held)) (slots : SlotMap) (start : Bound (List ℕ)) (after : Option (List ℕ)) (limit : ℕ) (names : List (List ℕ)) (rest : List (List ℕ × Option Held)) → IsStrictlySortedBy (slice_cmp nat_cmp) (keys_of es) → from_entries es ≡ slots → start ≡ bound_behind after → names ++ live rest ≡ live (entries_between (slice_cmp nat_cmp) start Unbounded es) → length names ≤ limit → Enough limit names (live rest) → names ≡ first_names limit after (shown_objects slots)
 names_listed es slots start after limit names rest rises is begins all few enough =
     let same : entries slots ≡ es = ap entries (sym is) ∙ entries_from es rises in
     sym (ap (λ (xs : List (List ℕ)). take limit (filter (is_after after) xs)) (names_shown slots ∙ ap live same)
-        ∙ ap (take limit) (sym (all ∙ ap live (behind es start after begins) ∙ live-filter (is_after after) es))
-        ∙ front limit names (live rest) few enough)
+    ∙ ap (take limit) (sym (all ∙ ap live (behind es start after begins) ∙ live-filter (is_after after) es))
+    ∙ front limit names (live rest) few enough)
 
 filter_all : {X : Type 0} (xs : List X) → filter (λ x. true) xs ≡ xs
 filter_all [] = refl

@@ -32,7 +32,7 @@ sorted (e ∷ es) rises = both (below_all by_bytes e.0 es) (is_sorted by_bytes e
 pub entries_from : {X : Type 0} (es : List (List ℕ × X)) → IsStrictlySortedBy (slice_cmp nat_cmp) (keys_of es) → entries (from_entries {R = slice_cmp nat_cmp} es) ≡ es
 entries_from es rises =
     same_entries by_bytes nat_list_cmp_total exact_bytes (entries (from_entries es)) es (entries_sorted (from_entries es)) (sorted es rises) (λ q.
-        sym (get-entries (from_entries es) q) ∙ get-from_entries nat_list_cmp_total es q)
+    sym (get-entries (from_entries es) q) ∙ get-from_entries nat_list_cmp_total es q)
 
 pub length_from : {X : Type 0} (es : List (List ℕ × X)) → IsStrictlySortedBy (slice_cmp nat_cmp) (keys_of es) → length es ≡ len (from_entries {R = slice_cmp nat_cmp} es)
 length_from es rises = sym (len-entries (from_entries es) ∙ ap length (entries_from es rises))

@@ -122,7 +122,7 @@ find_shown ((name, Some held) ∷ es) q h =
 entries_shown : (slots : SlotMap) → entries (shown_objects slots) ≡ shown_pairs (entries slots)
 entries_shown slots =
     same_entries by_bytes nat_list_cmp_total exact_bytes _ _ (entries_sorted (shown_objects slots)) (sorted_pairs (entries slots) (entries_sorted slots)) (λ q.
-        sym (get-entries (shown_objects slots) q) ∙ get-shown slots q ∙ ap seen (get-entries slots q) ∙ sym (find_shown (entries slots) q (entries_sorted slots)))
+    sym (get-entries (shown_objects slots) q) ∙ get-shown slots q ∙ ap seen (get-entries slots q) ∙ sym (find_shown (entries slots) q (entries_sorted slots)))
 
 -- the names of objects are those of slots that have one
 pub names_shown : (slots : SlotMap) → map (λ e. e.0) (entries (shown_objects slots)) ≡ live (entries slots)

@@ -7,10 +7,9 @@ ghost use Rattle.sea_object.specs.Op.{IsWithinLimits};
 ghost use Rattle.sea_object.specs.Undo.{CanUndo, CanUndoSlot, MayHalt, undone, undone_slot};
 
 use crate::content::Content;
-use crate::patch;
 use crate::undo::{Halt, Undo};
 use crate::values::Values;
-use crate::{Item, Op, Why};
+use crate::{Item, Op, Why, patch};
 use sea_base::{Data, Duplicate, Key, NoMemory};
 use std::alloc::Global;
 use std::marker::Model;
@@ -82,7 +81,10 @@ impl Object {
     {
         match op {
             Op::OmapRmKeyRange {
-                from, to, bound, ..
+                from,
+                to,
+                bound,
+                ..
             } => {
                 let keys = self.omap.keys_between(from, to, *bound as usize)?;
                 Ok(Item::Number(keys.items().len() as u32))
@@ -142,7 +144,10 @@ impl Object {
                 Ok(self.set_omap(values))
             }
             Op::OmapRmKeyRange {
-                from, to, bound, ..
+                from,
+                to,
+                bound,
+                ..
             } => {
                 let keys = self.omap.keys_between(from, to, *bound as usize)?;
                 let values = self.omap.without_keys(keys.items())?;

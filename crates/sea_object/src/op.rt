@@ -26,7 +26,9 @@ pub const RANGE_KEYS: u32 = 32;
 #[derive(Debug, PartialEq, Drop)]
 pub enum Op {
     /// Makes an empty object where there is none.
-    Touch { name: Name },
+    Touch {
+        name: Name,
+    },
     /// Fills the object with zeros up to the offset, and replaces or appends the bytes.
     Write {
         name: Name,
@@ -40,9 +42,14 @@ pub enum Op {
         length: u32,
     },
     /// Cuts the bytes to the size, or fills them with zeros to it.
-    Truncate { name: Name, size: u32 },
+    Truncate {
+        name: Name,
+        size: u32,
+    },
     /// Takes the object away, with its attributes and keys.
-    Remove { name: Name },
+    Remove {
+        name: Name,
+    },
     /// Puts an attribute.
     SetAttr {
         name: Name,
@@ -50,13 +57,24 @@ pub enum Op {
         value: Data,
     },
     /// Takes an attribute away, if it is there.
-    RmAttr { name: Name, key: Key },
+    RmAttr {
+        name: Name,
+        key: Key,
+    },
     /// Takes all attributes away.
-    RmAttrs { name: Name },
+    RmAttrs {
+        name: Name,
+    },
     /// Puts pairs into the omap, in order.
-    OmapSetKeys { name: Name, pairs: Pairs },
+    OmapSetKeys {
+        name: Name,
+        pairs: Pairs,
+    },
     /// Takes keys out of the omap, those that are there.
-    OmapRmKeys { name: Name, keys: Names },
+    OmapRmKeys {
+        name: Name,
+        keys: Names,
+    },
     /// Takes the first keys from `from` on and below `to` out of the omap, `bound` of them at
     /// most, and answers how many there were.
     OmapRmKeyRange {
@@ -66,7 +84,9 @@ pub enum Op {
         bound: u32,
     },
     /// Takes all keys out of the omap.
-    OmapClear { name: Name },
+    OmapClear {
+        name: Name,
+    },
     /// Asks for the object's bytes from the offset on, up to the length and the object's end.
     Read {
         name: Name,
@@ -74,13 +94,23 @@ pub enum Op {
         length: u32,
     },
     /// Asks for the object's size.
-    Stat { name: Name },
+    Stat {
+        name: Name,
+    },
     /// Asks for an attribute's value.
-    GetAttr { name: Name, key: Key },
+    GetAttr {
+        name: Name,
+        key: Key,
+    },
     /// Asks for all attributes.
-    GetAttrs { name: Name },
+    GetAttrs {
+        name: Name,
+    },
     /// Asks for the value of a key of the omap.
-    OmapGet { name: Name, key: Key },
+    OmapGet {
+        name: Name,
+        key: Key,
+    },
     /// Asks for the first pairs of the omap, of the keys above `after`, `limit` of them at most.
     OmapList {
         name: Name,
@@ -88,7 +118,10 @@ pub enum Op {
         after: Option<Key>,
     },
     /// Asks for the first names of objects above `after`, `limit` of them at most.
-    List { limit: u32, after: Option<Name> },
+    List {
+        limit: u32,
+        after: Option<Name>,
+    },
 }
 
 /// What sort of operation it is.
@@ -229,10 +262,8 @@ impl Op {
             | Op::Zero { .. }
             | Op::SetAttr { .. }
             | Op::RmAttr { .. } => 1,
-            Op::Remove { .. }
-            | Op::Truncate { .. }
-            | Op::OmapClear { .. }
-            | Op::RmAttrs { .. } => 8,
+            Op::Remove { .. } | Op::Truncate { .. } | Op::OmapClear { .. } | Op::RmAttrs { .. } =>
+                8,
             Op::OmapSetKeys { pairs, .. } => pairs.items().len() as u64,
             Op::OmapRmKeys { keys, .. } => keys.items().len() as u64,
             Op::OmapRmKeyRange { bound, .. } => u64::from(*bound),

@@ -11,11 +11,7 @@ use std::alloc::Global;
 
 /// Has an operation's effect on a slot, and answers what takes it back. Where the operation comes
 /// to a halt all is as before.
-pub(crate) fn change_slot(
-    alloc: Global,
-    slot: &mut Option<Object>,
-    op: &Op,
-) -> Result<Undo, Halt>
+pub(crate) fn change_slot(alloc: Global, slot: &mut Option<Object>, op: &Op) -> Result<Undo, Halt>
     requires { IsWithinLimits op.now }
     ensures fits { OnOk result (refusal_at op.now (option_map shown slot.old) ≡ None) }
     ensures ok { OnOk result (option_map shown slot.new ≡ object_after op.now (option_map shown slot.old)) }

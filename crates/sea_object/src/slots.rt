@@ -148,12 +148,7 @@ impl Slots {
 
     /// Does operations in order, and appends their items. Where they come to a stop each one is
     /// taken back. A request has few, so the calls do not nest deep.
-    pub(crate) fn run(
-        &mut self,
-        number: u32,
-        ops: &[Op],
-        answers: &mut Items,
-    ) -> Result<(), Stop>
+    pub(crate) fn run(&mut self, number: u32, ops: &[Op], answers: &mut Items) -> Result<(), Stop>
         requires limits { AllByRecursion IsWithinLimits ops.now }
         requires few { number + length ops.now < 2 ^ 32 }
         ensures items { OnOk result (answers.new ≡ answers.old ++ items ops.now (shown_objects self.old)) }
@@ -202,10 +197,11 @@ impl Slots {
         requires { CanUndoFound undo (map.get self.old name.now) }
         ensures { self.new ≡ put_back undo name.now self.old (map.get self.old name.now) }
     {
-        match self.slots.get_mut(name) {
-            Some(slot) => undo_slot(slot, undo),
-            None => drop(undo),
+        if let Some(slot) = self.slots.get_mut(name) {
+            undo_slot(slot, undo);
+            return;
         }
+        drop(undo);
     }
 
     // Takes a slot away.

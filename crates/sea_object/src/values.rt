@@ -83,12 +83,7 @@ impl Values {
     }
 
     /// The first keys in order, from one on and below another, `bound` of them at most.
-    pub(crate) fn keys_between(
-        &self,
-        from: &Key,
-        to: &Key,
-        bound: usize,
-    ) -> Result<Names, NoMemory>
+    pub(crate) fn keys_between(&self, from: &Key, to: &Key, bound: usize) -> Result<Names, NoMemory>
         ensures { IfOk result (λ keys. keys ≡ keys_between from.now to.now bound self.now) }
     {
         if is_below(from, to) {

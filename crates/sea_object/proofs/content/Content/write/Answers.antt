@@ -10,5 +10,5 @@ returns-then-offset-size-clause-ok c =
     let long = subst (λ (s : Stored). s.size ≤ length s.bytes) c.self.view_is c.self.invariant.0 in
     let within = subst (λ (s : Stored). c.args.offset ≤ s.size) c.self.view_is c.if-offset-size.true in
     on_both c.overwrite.result (λ bytes size.
-        ap (take c.overwrite.new.self.size) bytes
-        ∙ content_within c.args.offset c.args.self.now.size c.overwrite.new.self.size c.args.source.now c.args.self.now.bytes within long size) c.overwrite.ensures.bytes c.overwrite.ensures.size
+    ap (take c.overwrite.new.self.size) bytes
+    ∙ content_within c.args.offset c.args.self.now.size c.overwrite.new.self.size c.args.source.now c.args.self.now.bytes within long size) c.overwrite.ensures.bytes c.overwrite.ensures.size

@@ -1,5 +1,6 @@
 use Rattle.std.proofs.Common.{◌≡◌, Some, None, sym, ap, subst, ◌∙◌}
 use Rattle.std.specs.Prelude.{OnErr, Result, Ok, Err}
+use Rattle.std.proofs.lemmas.Result.{err_from_is_err_and}
 use Rattle.std.specs.FinMap as map
 use Rattle.sea_object.specs.Answer.{object_after, refusal_at}
 use Rattle.sea_object.specs.Held.{shown_objects}
@@ -23,7 +24,8 @@ pub returns-in_err-change_slot-clause-refused : goal.returns-in_err-change_slot-
 returns-in_err-change_slot-clause-refused c =
     let has = ap (λ m. map.get m c.args.name.now) (sym c.self.view_is) ∙ get_entry c.self.inside.slots.entries c.args.name.now ∙ sym c.in-Some.ensures.value in
     let is = get-shown c.args.self.now c.args.name.now ∙ ap seen has in
-    rw c.from_residual.ensures (subst (λ o. MayHalt (refusal_at c.args.op.now o) c.in_err-change_slot.field-0) (sym is) c.in_err-change_slot.ensures.refused)
+    let p = err_from_is_err_and c.from_residual.result c.from_residual.ensures.1 in
+    rw (p.1, p.2) (subst (λ o. MayHalt (refusal_at c.args.op.now o) _) (sym is) c.in_err-change_slot.ensures.refused)
 
 pub returns-in-Some-clause-fits : goal.returns-in-Some-clause-fits
 returns-in-Some-clause-fits c =
@@ -60,7 +62,8 @@ pub returns-in_err-change_slot-2-clause-refused : goal.returns-in_err-change_slo
 returns-in_err-change_slot-2-clause-refused c =
     let none = ap (λ m. map.get m c.args.name.now) (sym c.self.view_is) ∙ get_entry c.self.inside.slots.entries c.args.name.now ∙ sym c.in_default.ensures.value in
     let is = get-shown c.args.self.now c.args.name.now ∙ ap seen none in
-    rw c.from_residual-in_err-change_slot-2.ensures (subst (λ o. MayHalt (refusal_at c.args.op.now o) c.in_err-change_slot-2.field-0) (sym is) c.in_err-change_slot-2.ensures.refused)
+    let p = err_from_is_err_and c.from_residual-in_err-change_slot-2.result c.from_residual-in_err-change_slot-2.ensures.1 in
+    rw (p.1, p.2) (subst (λ o. MayHalt (refusal_at c.args.op.now o) _) (sym is) c.in_err-change_slot-2.ensures.refused)
 
 pub returns-clause-ok : goal.returns-clause-ok
 returns-clause-ok c =

@@ -17,9 +17,9 @@ returns-in-Some c =
     ∙ ap (map.insert c.args.self.now c.args.name.now) c.undo_slot.ensures
     ∙ ap (put_back c.args.undo c.args.name.now c.args.self.now) (sym wrote.1)
 
-pub returns-in-None : goal.returns-in-None
-returns-in-None c =
-    let none = ap (λ m. map.get m c.args.name.now) (sym c.self.view_is) ∙ get_entry c.self.inside.slots.entries c.args.name.now ∙ sym c.in-None.ensures.value in
+pub returns : goal.returns
+returns c =
+    let none = ap (λ m. map.get m c.args.name.now) (sym c.self.view_is) ∙ get_entry c.self.inside.slots.entries c.args.name.now ∙ sym c.in_default.ensures.value in
     ap (λ slots. map.from_entries slots.entries) c.get_mut.follows.holds-at-none
     ∙ c.self.view_is
     ∙ ap (put_back c.args.undo c.args.name.now c.args.self.now) (sym none)
