@@ -1,8 +1,12 @@
 mod lines;
+mod plain;
+mod random;
 
 use super::*;
 use crate::undo::Halt;
 use lines::{op_of, reply_text, request_of};
+use plain::Plain;
+use random::Dice;
 use sea_base::{Data, Duplicate, Name, Pairs};
 use std::alloc::Global;
 use std::process::Abort;
@@ -290,5 +294,19 @@ fn keys_of_an_omap_have_a_limit(rt: HostRuntime) -> Result<(), Fail> {
     assert!(rt; is_refused(&mut object, &op_of(alloc, b"omap_setkeys a new x")?)?);
     assert!(rt; !is_refused(&mut object, &op_of(alloc, b"omap_setkeys a 19999 x")?)?);
     assert_eq!(rt; object.omap().len(), 10_000);
+    Ok(())
+}
+
+#[test]
+fn objects_answer_as_the_plain_program(rt: HostRuntime) -> Result<(), Fail> {
+    let alloc = rt.alloc();
+    let mut objects = Objects::new(alloc);
+    let mut plain = Plain::new(alloc);
+    let mut dice = Dice::new(alloc);
+    for _ in 0..4_000 {
+        if let Ok(request) = dice.request()? {
+            assert_eq!(rt; objects.apply(&request)?, plain.apply(&request)?);
+        }
+    }
     Ok(())
 }
