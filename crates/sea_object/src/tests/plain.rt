@@ -149,7 +149,10 @@ impl PlainObject {
                 }
             }
             Op::OmapRmKeyRange {
-                from, to, bound, ..
+                from,
+                to,
+                bound,
+                ..
             } => return Ok(Ok(self.remove_between(alloc, from, to, *bound)?)),
             Op::OmapClear { .. } => self.omap.clear(),
             _ => return Ok(Ok(self.told(alloc, op)?)),
@@ -198,7 +201,12 @@ impl PlainObject {
         match op {
             Op::Read { offset, length, .. } => {
                 let mut part = Vec::new(alloc);
-                for byte in self.bytes.iter().skip(*offset as usize).take(*length as usize) {
+                for byte in self
+                    .bytes
+                    .iter()
+                    .skip(*offset as usize)
+                    .take(*length as usize)
+                {
                     part.push(*byte)?;
                 }
                 Ok(Item::Bytes(Data::from_vec(part)?))

@@ -33,35 +33,44 @@ impl Dice {
     }
 
     fn name(&mut self) -> Result<Name, Fail> {
-        Ok(Name::new(self.alloc, match self.number() {
-            0 | 1 | 2 => b"a".as_slice(),
-            3 | 4 => b"b".as_slice(),
-            5 => b"ab".as_slice(),
-            _ => b"c".as_slice(),
-        })?)
+        Ok(Name::new(
+            self.alloc,
+            match self.number() {
+                0 | 1 | 2 => b"a".as_slice(),
+                3 | 4 => b"b".as_slice(),
+                5 => b"ab".as_slice(),
+                _ => b"c".as_slice(),
+            },
+        )?)
     }
 
     fn key(&mut self) -> Result<Key, Fail> {
-        Ok(Name::new(self.alloc, match self.number() {
-            0 => b"k".as_slice(),
-            1 => b"kk".as_slice(),
-            2 => b"l".as_slice(),
-            3 => b"m".as_slice(),
-            4 => b"mm".as_slice(),
-            5 => b"n".as_slice(),
-            6 => b"o".as_slice(),
-            _ => b"\xff".as_slice(),
-        })?)
+        Ok(Name::new(
+            self.alloc,
+            match self.number() {
+                0 => b"k".as_slice(),
+                1 => b"kk".as_slice(),
+                2 => b"l".as_slice(),
+                3 => b"m".as_slice(),
+                4 => b"mm".as_slice(),
+                5 => b"n".as_slice(),
+                6 => b"o".as_slice(),
+                _ => b"\xff".as_slice(),
+            },
+        )?)
     }
 
     fn data(&mut self) -> Result<Data, Fail> {
-        Ok(Data::new(self.alloc, match self.number() {
-            0 => b"A".as_slice(),
-            1 => b"BC".as_slice(),
-            2 => b"\0".as_slice(),
-            3 => b"DEFGHIJ".as_slice(),
-            _ => b"KLM".as_slice(),
-        })?)
+        Ok(Data::new(
+            self.alloc,
+            match self.number() {
+                0 => b"A".as_slice(),
+                1 => b"BC".as_slice(),
+                2 => b"\0".as_slice(),
+                3 => b"DEFGHIJ".as_slice(),
+                _ => b"KLM".as_slice(),
+            },
+        )?)
     }
 
     fn after(&mut self) -> Result<Option<Name>, Fail> {

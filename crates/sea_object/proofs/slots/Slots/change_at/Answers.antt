@@ -25,7 +25,7 @@ returns-in_err-change_slot-clause-refused c =
     let has = ap (λ m. map.get m c.args.name.now) (sym c.self.view_is) ∙ get_entry c.self.inside.slots.entries c.args.name.now ∙ sym c.in-Some.ensures.value in
     let is = get-shown c.args.self.now c.args.name.now ∙ ap seen has in
     let p = err_from_is_err_and c.from_residual.result c.from_residual.ensures.1 in
-    rw (p.1, p.2) (subst (λ o. MayHalt (refusal_at c.args.op.now o) _) (sym is) c.in_err-change_slot.ensures.refused)
+    rw (p.1, p.2) (subst (λ o. MayHalt (refusal_at c.args.op.now o) c.in_err-change_slot.field-0.0) (sym is) c.in_err-change_slot.ensures.refused)
 
 pub returns-in-Some-clause-fits : goal.returns-in-Some-clause-fits
 returns-in-Some-clause-fits c =
@@ -63,7 +63,7 @@ returns-in_err-change_slot-2-clause-refused c =
     let none = ap (λ m. map.get m c.args.name.now) (sym c.self.view_is) ∙ get_entry c.self.inside.slots.entries c.args.name.now ∙ sym c.in_default.ensures.value in
     let is = get-shown c.args.self.now c.args.name.now ∙ ap seen none in
     let p = err_from_is_err_and c.from_residual-in_err-change_slot-2.result c.from_residual-in_err-change_slot-2.ensures.1 in
-    rw (p.1, p.2) (subst (λ o. MayHalt (refusal_at c.args.op.now o) _) (sym is) c.in_err-change_slot-2.ensures.refused)
+    rw (p.1, p.2) (subst (λ o. MayHalt (refusal_at c.args.op.now o) c.in_err-change_slot-2.field-0.0) (sym is) c.in_err-change_slot-2.ensures.refused)
 
 pub returns-clause-ok : goal.returns-clause-ok
 returns-clause-ok c =
