@@ -1,5 +1,5 @@
 -- What clients ask for.
-use Rattle.std.specs.Prelude.{◌≡◌, ℕ, ◌≤◌, List, [], ◌∷◌, length, slice_index_or}
+use Rattle.std.specs.Prelude.{ℕ, ◌≤◌, List, [], ◌∷◌, length, slice_index_or}
 use Rattle.std.specs.List.{AllByRecursion}
 use Rattle.sea_object.specs.declared.op.Op.{Op}
 use Rattle.sea_history.specs.declared.plan.TheConstants.{CLIENTS, CLIENT_REQUESTS}

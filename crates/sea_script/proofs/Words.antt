@@ -1,11 +1,9 @@
 -- The texts of names, bytes and numbers have no space in them.
-use Rattle.std.proofs.Common.{inl, inr, Bool, true, false, ◌≡◌, ◌==◌, ◌&&◌, ℕ, ◌/◌, ◌%◌, ◌<◌, ◌≤◌, List, [], ◌∷◌, ◌++◌, length, slice_index, nat_le, refl, sym, ap, subst, ◌∙◌, arith, codes}
-use Rattle.std.specs.List.{All, AllByRecursion, flat_map, join_with_byte}
-use Rattle.std.specs.Fmt.{decimal}
-use Rattle.std.proofs.lemmas.Bool.{and_parts, ne_eqb}
+use Rattle.std.proofs.Common.{inl, inr, Bool, true, ◌≡◌, ◌&&◌, ℕ, ◌/◌, ◌%◌, ◌<◌, ◌≤◌, List, [], ◌∷◌, slice_index, nat_le, refl, sym, subst, arith}
+use Rattle.std.specs.List.{All, flat_map}
+use Rattle.std.proofs.lemmas.Bool.{and_parts}
 use Rattle.std.proofs.lemmas.Bool.Decides.{nat_tests}
-use Rattle.std.proofs.lemmas.List.Elements.{All-append, All-cons, All-from_get_or, All-get_or, All-nil, All-weaker}
-use Rattle.std.proofs.lemmas.List.Splits.{slice_split_at, slice_split_none}
+use Rattle.std.proofs.lemmas.List.Elements.{All-append, All-cons, All-get_or, All-nil}
 use Rattle.hex.specs.Hex.{lower_digits}
 use Rattle.sea_script.specs.Word.{AreBytes, byte_text, data_text, name_text, pair_text, stands_for_itself}
 use Rattle.sea_script.proofs.Spelling.{byte_escaped, byte_plain, cases, data_front, name_front, pair_halves}

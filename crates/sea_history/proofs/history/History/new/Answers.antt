@@ -1,5 +1,4 @@
-use Rattle.std.proofs.Common.{◌≡◌, arith, length, ap, ◌∙◌, ◌-◌, get_or}
-use Rattle.std.proofs.Math.ListN.{replicate}
+use Rattle.std.proofs.Common.{arith, length, ap, ◌∙◌, ◌-◌}
 use Rattle.std.proofs.lemmas.List.{length-replicate, get_or-replicate}
 use Rattle.sea_history.proofs.Numbers.{none_numbered}
 use Rattle.sea_history.proofs.history.History.new.Goals as goal

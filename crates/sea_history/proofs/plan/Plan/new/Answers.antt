@@ -1,7 +1,5 @@
-use Rattle.std.proofs.Common.{◌≡◌, [], arith, subst, sym, length, ap, ◌∙◌}
-use Rattle.std.proofs.Math.ListN.{replicate}
+use Rattle.std.proofs.Common.{[], arith, length, ap, ◌∙◌}
 use Rattle.std.proofs.lemmas.List.{length-replicate}
-use Rattle.std.specs.List.{AllByRecursion}
 use Rattle.sea_history.proofs.Numbers.{all_empty}
 use Rattle.sea_history.proofs.plan.Plan.new.Goals as goal
 
