@@ -53,7 +53,10 @@ fn a_history_numbers_the_entries_of_each_client(rt: HostRuntime) -> Result<(), F
     for entry in history.entries() {
         numbers.push((entry.client, entry.number))?;
     }
-    assert_eq!(rt; numbers.as_slice(), [(2, 1), (1, 1), (2, 2), (2, 3), (1, 2)].as_slice());
+    assert_eq!(rt;
+        numbers.as_slice(),
+        [(2, 1), (1, 1), (2, 2), (2, 3), (1, 2)].as_slice()
+    );
     assert_eq!(rt; history.acknowledged(), 4);
     assert_eq!(rt; history.sent_back(), 1);
     Ok(())

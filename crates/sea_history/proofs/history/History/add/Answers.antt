@@ -19,7 +19,7 @@ invariant_of-self c =
     let long : c.args.client ≤ length counts.items = omega (arith, counts.ok.0) in
     record {
       counted = λ q some_q few_q.
-        rw c.in-Ok.ensures.items (counted_more counts.items entries.items next (λ k some_k few_k. c.self.invariant.counted k some_k (omega (arith, few_k, counts.ok.0))) c.requires.client.0 long number q some_q (omega (arith, few_q, counts.ok.0)));
+          rw c.in-Ok.ensures.items (counted_more counts.items entries.items next (λ k some_k few_k. c.self.invariant.counted k some_k (omega (arith, few_k, counts.ok.0))) c.requires.client.0 long number q some_q (omega (arith, few_q, counts.ok.0)));
       numbered = rw c.in-Ok.ensures.items (numbered_more entries.items next c.self.invariant.numbered (number ∙ ap (λ n. n + 1) (c.self.invariant.counted c.args.client c.requires.client.0 (omega (arith, clients)))));
       few = omega (arith, few, entries.ok.0, c.in-Ok.ensures.len);
       back = c.self.invariant.back;
