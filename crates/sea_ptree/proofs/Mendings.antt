@@ -1,5 +1,5 @@
 -- A node that was changed, put among its neighbours, and what stands below it then.
-use Rattle.std.proofs.Common.{◌≡◌, ℕ, zero, suc, ◌+◌, ◌-◌, ◌/◌, ◌≤◌, ◌<◌, ◌^◌, List, [], ◌∷◌, ◌++◌, map, length, take, drop, refl, sym, ap, subst, ◌∙◌, arith, inl, inr, append_assoc, append-nil, take-append-drop, length-take, length-drop}
+use Rattle.std.proofs.Common.{◌≡◌, ℕ, zero, suc, ◌-◌, ◌/◌, ◌≤◌, ◌^◌, List, [], ◌∷◌, ◌++◌, length, take, drop, refl, sym, ap, subst, ◌∙◌, arith, inl, inr, take-append-drop, length-drop}
 use Rattle.std.proofs.lemmas.List.{map-append, length-take-le}
 use Rattle.std.proofs.lemmas.List.Concat.{flat_map-append}
 use Rattle.sea_base.specs.declared.place.Paddr.{Paddr}
@@ -7,10 +7,9 @@ use Rattle.sea_ptree.specs.declared.kind.Kind.{Kind}
 use Rattle.sea_ptree.specs.declared.making.Making.{Making}
 use Rattle.sea_ptree.specs.Blocks.{Image}
 use Rattle.sea_ptree.specs.Fresh.{HasBlocks, times, numbers}
-use Rattle.sea_ptree.specs.Making.{Wrote}
-use Rattle.sea_ptree.specs.Mending.{WroteParts, WroteNone, WroteOne, WroteTwo}
+use Rattle.sea_ptree.specs.Mending.{WroteParts, WroteTwo}
 use Rattle.sea_ptree.specs.Node.{Entry, Fits, MayStand}
-use Rattle.sea_ptree.specs.Rebuilding.{Exchanges, Rebuilt, fresh_places}
+use Rattle.sea_ptree.specs.Rebuilding.{Exchanges, Rebuilt}
 use Rattle.sea_ptree.specs.Tree.{Item, pairs, places, entry_of, Stands}
 use Rattle.sea_ptree.proofs.Items.{all_pairs, AllStand}
 use Rattle.sea_ptree.proofs.Makings.{has_before, wrote_onward, exchanges_by, exchanges_turned, exchanges_as}

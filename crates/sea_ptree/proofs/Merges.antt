@@ -1,7 +1,7 @@
 -- A run laid over a tree, step by step up to the root.
-use Rattle.std.proofs.Common.{◌≡◌, ℕ, zero, suc, ◌+◌, ◌-◌, ◌≤◌, ◌<◌, ◌^◌, List, [], ◌∷◌, ◌++◌, map, length, take, drop, refl, sym, ap, subst, ◌∙◌, arith, inl, inr, append_assoc, append-nil, length-append, map-id, IsTrue}
+use Rattle.std.proofs.Common.{◌≡◌, ℕ, zero, suc, ◌+◌, ◌≤◌, ◌<◌, ◌^◌, List, [], ◌∷◌, ◌++◌, length, take, drop, refl, sym, ap, subst, ◌∙◌, arith, inl, inr, append_assoc, append-nil, length-append, map-id, IsTrue}
 use Rattle.std.specs.Prelude.{◌⊎◌}
-use Rattle.std.specs.List.{AllByRecursion, flat_map}
+use Rattle.std.specs.List.{AllByRecursion}
 use Rattle.std.proofs.lemmas.List.{length-map}
 use Rattle.std.proofs.lemmas.List.Concat.{flat_map-append}
 use Rattle.sea_ptree.specs.declared.kind.Kind.{Kind}
@@ -12,9 +12,9 @@ use Rattle.sea_ptree.specs.Blocks.{Image, Held, Keeps}
 use Rattle.sea_ptree.specs.Faults.{IsFaultBelow}
 use Rattle.sea_ptree.specs.Fresh.{HasBlocks, AgreeAt}
 use Rattle.sea_ptree.specs.Laying.{pairs_laid_over, RunFits}
-use Rattle.sea_ptree.specs.Making.{Took, Wrote, Onward}
+use Rattle.sea_ptree.specs.Making.{Took, Onward}
 use Rattle.sea_ptree.specs.Mending.{IsAlone, IsWithRight, IsWithLeft, IsFaultNear, Gathered, IsSettled, WroteParts}
-use Rattle.sea_ptree.specs.Merging.{Towards, LeadToOne, RunMayStand, MergesBelow, first_key}
+use Rattle.sea_ptree.specs.Merging.{Towards, LeadToOne, MergesBelow, first_key}
 use Rattle.sea_ptree.specs.Node.{Entry, IsRising}
 use Rattle.sea_ptree.specs.Rebuilding.{Rebuilt}
 use Rattle.sea_ptree.specs.Run.{Update}

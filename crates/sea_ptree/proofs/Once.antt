@@ -1,5 +1,5 @@
 -- No place is named twice among the nodes of a tree: a block tells its level and its least key.
-use Rattle.std.proofs.Common.{◌≡◌, ℕ, zero, suc, ◌+◌, ◌≤◌, ◌<◌, ◌^◌, Bool, true, false, cond, ◌==◌, List, [], ◌∷◌, ◌++◌, map, length, get_or, refl, sym, ap, subst, ◌∙◌, arith, inl, inr}
+use Rattle.std.proofs.Common.{◌≡◌, ℕ, zero, suc, ◌+◌, ◌≤◌, ◌<◌, ◌^◌, true, false, cond, ◌==◌, List, [], ◌∷◌, ◌++◌, length, sym, ap, subst, ◌∙◌, arith, inl, inr}
 use Rattle.std.specs.Prelude.{◌⊎◌}
 use Rattle.std.proofs.lemmas.Bool.{cases_lt}
 use Rattle.std.proofs.lemmas.Bool.Decides.{nat_tests}
@@ -8,7 +8,7 @@ use Rattle.sea_ptree.specs.declared.link.Link.{Link}
 use Rattle.sea_ptree.specs.Blocks.{Image}
 use Rattle.sea_ptree.specs.Fresh.{times}
 use Rattle.sea_ptree.specs.Node.{Entry, Spells}
-use Rattle.sea_ptree.specs.Tree.{Item, pairs, places, entry_of, least_key, NodeAt, Stands, Holds, Content, IsTreeOf}
+use Rattle.sea_ptree.specs.Tree.{Item, pairs, places, least_key, NodeAt, Stands, Content, IsTreeOf}
 use Rattle.sea_ptree.proofs.Fronts.{one_spelled, spelled_level}
 use Rattle.sea_ptree.proofs.Items.{all_pairs, AllStand, begins}
 use Rattle.sea_ptree.proofs.Lookups.{held_lie}

@@ -1,5 +1,5 @@
 -- One node written anew, step by step up to the root.
-use Rattle.std.proofs.Common.{◌≡◌, ℕ, suc, ◌+◌, ◌-◌, ◌≤◌, ◌<◌, ◌^◌, List, [], ◌∷◌, ◌++◌, map, length, get_or, set, take, drop, refl, sym, ap, subst, ◌∙◌, arith, IsTrue, append-nil, take-append-drop}
+use Rattle.std.proofs.Common.{◌≡◌, ℕ, suc, ◌+◌, ◌≤◌, ◌<◌, ◌^◌, List, [], ◌∷◌, ◌++◌, length, get_or, set, take, drop, refl, sym, ap, subst, ◌∙◌, arith, IsTrue, append-nil, take-append-drop}
 use Rattle.std.proofs.lemmas.List.{length-map, take_more, drop_more, set_split}
 use Rattle.std.proofs.lemmas.List.Concat.{flat_map-append}
 use Rattle.std.specs.FinMap.{entries}
@@ -14,7 +14,7 @@ use Rattle.sea_ptree.specs.Blocks.{Image, Held, Keeps}
 use Rattle.sea_ptree.specs.Faults.{IsFaultBelow}
 use Rattle.sea_ptree.specs.Fresh.{HasBlocks, AgreeAt, Renewed, times, numbers, places_from}
 use Rattle.sea_ptree.specs.Making.{Took, Wrote, Onward, IsMade}
-use Rattle.sea_ptree.specs.Node.{Entry, IsRising}
+use Rattle.sea_ptree.specs.Node.{Entry}
 use Rattle.sea_ptree.specs.Rebuilding.{Exchanges, Rebuilt, Rebuilds}
 use Rattle.sea_ptree.specs.Tree.{Item, pairs, places, entry_of, link_of, root_link, NodeAt, Holds, Has, Content, IsTree, IsTreeOf, least_of_root}
 use Rattle.sea_ptree.proofs.Checks.{Next}
@@ -26,7 +26,6 @@ use Rattle.sea_ptree.proofs.Once.{tree_once}
 use Rattle.sea_ptree.proofs.Reaching.{fault_step}
 use Rattle.sea_ptree.proofs.Rebuilding.{all_places, entries_of, all_front, all_back, taken, written, node_written, rebuilt_as, after_taken, around}
 use Rattle.sea_ptree.proofs.Rising.{Lie, Lie-split, Lie-rising}
-use Rattle.sea_ptree.proofs.Steps.{same_held}
 
 -- the entry at an index
 pub next_there : (es : List Entry) (index : ℕ) (d : Entry) → index < length es → Next es index (get_or es index d)

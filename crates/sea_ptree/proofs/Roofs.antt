@@ -1,6 +1,5 @@
 -- The root over a tree that a run was laid over.
-use Rattle.std.proofs.Common.{◌≡◌, ℕ, zero, suc, ◌+◌, ◌≤◌, ◌<◌, ◌^◌, List, [], ◌∷◌, ◌++◌, map, length, refl, sym, ap, subst, ◌∙◌, arith, inl, inr, append-nil, map-id}
-use Rattle.std.proofs.lemmas.List.{length-map}
+use Rattle.std.proofs.Common.{◌≡◌, ℕ, zero, suc, ◌+◌, ◌≤◌, ◌<◌, ◌^◌, List, [], ◌∷◌, length, refl, sym, ap, subst, ◌∙◌, arith, inl, inr, append-nil, map-id}
 use Rattle.std.specs.FinMap.{entries}
 use Rattle.sea_base.specs.declared.place.PRoot.{PRoot}
 use Rattle.sea_ptree.specs.declared.kind.Kind.{Kind}
@@ -11,12 +10,12 @@ use Rattle.sea_ptree.specs.Blocks.{Image}
 use Rattle.sea_ptree.specs.Fresh.{HasBlocks, AgreeAt}
 use Rattle.sea_ptree.specs.Laying.{pairs_laid_over, RunFits}
 use Rattle.sea_ptree.specs.Making.{Wrote, Onward, IsMade}
-use Rattle.sea_ptree.specs.Mending.{WroteParts, SettlesRoot, RootNone, RootChild, RootWritten, RootSplit}
-use Rattle.sea_ptree.specs.Merging.{LeadToOne, LeadToOneFrom, RunMayStand, Merges, MergesBelow}
+use Rattle.sea_ptree.specs.Mending.{WroteParts, SettlesRoot, RootNone, RootChild}
+use Rattle.sea_ptree.specs.Merging.{LeadToOne, LeadToOneFrom, Merges, MergesBelow}
 use Rattle.sea_ptree.specs.Node.{Entry}
 use Rattle.sea_ptree.specs.Rebuilding.{Exchanges, Rebuilt}
 use Rattle.sea_ptree.specs.Run.{Update, laid_over}
-use Rattle.sea_ptree.specs.Tree.{Item, places, entry_of, link_of, root_link, Holds, Content, IsTree, IsTreeOf, least_of_root}
+use Rattle.sea_ptree.specs.Tree.{Item, link_of, root_link, Holds, Content, IsTree, IsTreeOf, least_of_root}
 use Rattle.sea_ptree.proofs.Items.{all_pairs, AllStand}
 use Rattle.sea_ptree.proofs.Layings.{laid_lie, laid_fits, laid_slots, laid_entries}
 use Rattle.sea_ptree.proofs.Lookups.{held_lie, leaf_pairs}
@@ -24,7 +23,7 @@ use Rattle.sea_ptree.proofs.Makings.{has_before, wrote_onward, wrote_exchanges, 
 use Rattle.sea_ptree.proofs.Mendings.{parts_written, exchanges_none}
 use Rattle.sea_ptree.proofs.Merges.{all_stand, no_places, no_items, headed, least_small}
 use Rattle.sea_ptree.proofs.Once.{tree_once}
-use Rattle.sea_ptree.proofs.Rebuilding.{all_places, entries_of, AllFit, AllMayStand}
+use Rattle.sea_ptree.proofs.Rebuilding.{all_places, AllFit, AllMayStand}
 use Rattle.sea_ptree.proofs.Relocations.{renewed_root, root_tree}
 use Rattle.sea_ptree.proofs.Rising.{Lie, Lie-rising}
 

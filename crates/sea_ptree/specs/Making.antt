@@ -1,5 +1,5 @@
 -- Nodes that are written anew, one by one.
-use Rattle.std.specs.Prelude.{◌≡◌, ℕ, ◌+◌, ◌<◌, ◌^◌, List, [], ◌∷◌, ◌++◌, map, length}
+use Rattle.std.specs.Prelude.{◌≡◌, ℕ, ◌+◌, ◌<◌, ◌^◌, List, [], ◌∷◌, ◌++◌, length}
 use Rattle.sea_base.specs.declared.place.Paddr.{Paddr}
 use Rattle.sea_base.specs.declared.place.PRoot.{PRoot}
 use Rattle.sea_ptree.specs.declared.making.Making.{Making}

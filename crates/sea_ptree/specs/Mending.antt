@@ -1,5 +1,5 @@
 -- A node that was changed, put among its neighbours.
-use Rattle.std.specs.Prelude.{◌≡◌, ◌⊎◌, ℕ, suc, ◌+◌, ◌-◌, ◌/◌, ◌<◌, ◌≤◌, List, [], ◌∷◌, ◌++◌, take, drop, length}
+use Rattle.std.specs.Prelude.{◌≡◌, ◌⊎◌, ℕ, ◌+◌, ◌/◌, ◌<◌, ◌≤◌, List, [], ◌∷◌, ◌++◌, take, drop, length}
 use Rattle.sea_base.specs.declared.place.PRoot.{PRoot}
 use Rattle.sea_base.specs.declared.place.Slot.{Slot}
 use Rattle.sea_ptree.specs.declared.fault.PFault.{PFault}

@@ -1,5 +1,5 @@
-//! A trial of logical trees: it puts pairs into a tree in memory, gets some of them one by one and some
-//! in ranges, and counts what stands there.
+//! A trial of logical trees: it puts pairs into a tree in memory, gets some of them, and counts what
+//! stands there.
 #![tactic(auto)]
 
 mod fault;
@@ -27,26 +27,19 @@ fn main(rt: HostRuntime) -> ExitCode {
 
 // Runs the trial that the words ask for, and prints what it counted.
 fn run(rt: &HostRuntime) -> Result<(), TrialFault> {
-    let (puts, gets, ranges) = counts(rt)?;
-    let report = run_trial(rt.alloc(), puts, gets, ranges)?;
+    let (puts, gets) = counts(rt)?;
+    let report = run_trial(rt.alloc(), puts, gets)?;
     println!(rt; "{report}")?;
     Ok(())
 }
 
-// The three numbers behind the program's name.
-fn counts(rt: &HostRuntime) -> Result<(u32, u32, u32), TrialFault> {
+// The two numbers behind the program's name.
+fn counts(rt: &HostRuntime) -> Result<(u32, u32), TrialFault> {
     let mut words = env::args(rt)?.skip(1);
-    let (Some(puts), Some(gets), Some(ranges)) = (words.next(), words.next(), words.next()) else {
+    let (Some(puts), Some(gets), None) = (words.next(), words.next(), words.next()) else {
         return Err(TrialFault::Usage);
     };
-    if words.next().is_some() {
-        return Err(TrialFault::Usage);
-    }
-    Ok((
-        number(puts.as_str())?,
-        number(gets.as_str())?,
-        number(ranges.as_str())?,
-    ))
+    Ok((number(puts.as_str())?, number(gets.as_str())?))
 }
 
 fn number(word: &str) -> Result<u32, TrialFault> {

@@ -3,7 +3,6 @@ ghost use Rattle.std.specs.Prelude.{◌≡◌, IfOk, length};
 mod counting;
 mod dice;
 mod faults;
-mod high;
 mod leaves;
 mod mending;
 mod nodes;

@@ -7,16 +7,12 @@ use sea_base::Nths;
 use std::alloc::Global;
 use std::fmt;
 
-// How many pairs a range has at most.
-const RANGE_PAIRS: u32 = 64;
-
 /// What a trial counted.
 #[derive(Clone, Copy, Debug, PartialEq, Eq)]
 pub struct Report {
     puts: u32,
     gets: u32,
     found: u32,
-    ranged: u64,
     pairs: u64,
     nodes: u64,
     level: u8,
@@ -28,32 +24,25 @@ impl fmt::Display for Report {
             puts,
             gets,
             found,
-            ranged,
             pairs,
             nodes,
             level,
         } = *self;
         write!(f, "puts {puts} gets {gets} found {found}")?;
-        write!(
-            f,
-            " ranged {ranged} pairs {pairs} nodes {nodes} level {level}"
-        )
+        write!(f, " pairs {pairs} nodes {nodes} level {level}")
     }
 }
 
-/// Puts so many pairs into an empty tree, gets so many of them in another order, and then so many
-/// ranges of 64.
-pub fn run_trial(alloc: Global, puts: u32, gets: u32, ranges: u32) -> Result<Report, TrialFault> {
+/// Puts so many pairs into an empty tree, and gets so many of them in another order.
+pub fn run_trial(alloc: Global, puts: u32, gets: u32) -> Result<Report, TrialFault> {
     let mut tree = filled_tree(alloc, puts)?;
     let found = count_found(alloc, &mut tree, puts, gets)?;
-    let ranged = count_ranged(alloc, &mut tree, puts, ranges)?;
     let checked = tree.check()?;
     let level = tree.level()?;
     Ok(Report {
         puts,
         gets,
         found,
-        ranged,
         pairs: checked.pairs,
         nodes: checked.nodes,
         level,
@@ -80,22 +69,6 @@ fn count_found(alloc: Global, tree: &mut MapTree, puts: u32, gets: u32) -> Resul
         }
     }
     Ok(found)
-}
-
-// How many pairs stand in ranges of 64.
-fn count_ranged(
-    alloc: Global,
-    tree: &mut MapTree,
-    puts: u32,
-    ranges: u32,
-) -> Result<u64, TrialFault> {
-    let mut ranged = 0u64;
-    for number in 0..ranges {
-        let key = key_of(alloc, shuffled(number, puts))?;
-        let pairs = tree.range(Some(&key), RANGE_PAIRS)?;
-        ranged = ranged.saturating_add(pairs.items().len() as u64);
-    }
-    Ok(ranged)
 }
 
 // A number below `count`, or 0. Numbers that follow one another are far apart.

@@ -1,13 +1,9 @@
-use super::{bytes_at, del_letter, empty_tree, filled, put_letters, repeated};
+use super::{del_letter, filled, put_letters, repeated};
 use crate::fault::TrialFault;
 use crate::map_tree::MapTree;
-use sea_base::{Laddr, Nths, SpaceFault};
+use sea_base::{Nths, SpaceFault};
 use sea_tree::TreeFault;
 use std::alloc::Global;
-use std::process::Abort;
-
-// How many calls a run has.
-const CALLS: u8 = 19;
 
 const FAILED: TrialFault = TrialFault::Tree(TreeFault::Space(SpaceFault::DeviceFault));
 
@@ -47,66 +43,41 @@ fn each_call_answers_a_failed_get(rt: HostRuntime) -> Result<(), TrialFault> {
     Ok(())
 }
 
-// The call of a run at a place, counted from 0: leaves are split, read, merged and dropped.
-fn call(alloc: Global, tree: &mut MapTree, place: u8) -> Result<(), TrialFault> {
-    let key = repeated(alloc, b'c', 1)?;
-    match place {
-        0..=7 => put_letters(alloc, tree, &[b'a' + place]),
-        8 => tree.get(&key).map(|_| ()),
-        9 => tree.range(None, 9).map(|_| ()),
-        10 => tree.check().map(|_| ()),
-        11..=17 => del_letter(alloc, tree, b'a' + (place - 11)).map(|_| ()),
-        _ => tree.drop_all(),
-    }
+// Reads a tree in each way.
+fn read_all(alloc: Global, tree: &mut MapTree) -> Result<(), TrialFault> {
+    let key = repeated(alloc, b'a', 1)?;
+    tree.get(&key)?;
+    tree.range(None, 4)?;
+    tree.check()?;
+    Ok(())
 }
 
-// Makes the first calls of the run, and answers how many were done before the one that failed.
-fn run(alloc: Global, tree: &mut MapTree, calls: u8) -> Result<u8, TrialFault> {
-    for place in 0..calls {
-        match call(alloc, tree, place) {
-            Ok(()) => {}
-            Err(FAILED) => return Ok(place),
-            Err(fault) => return Err(fault),
-        }
-    }
-    Ok(calls)
-}
-
-// Whether the same stands at each address that the run is given.
-fn are_same(alloc: Global, one: &mut MapTree, other: &mut MapTree) -> Result<bool, TrialFault> {
-    for at in 1..20 {
-        if bytes_at(alloc, one, Laddr(at))? != bytes_at(alloc, other, Laddr(at))? {
-            return Ok(false);
-        }
-    }
-    Ok(true)
-}
-
-// Lets one get fail, and compares what stands then with what stood before that call. Answers how many
-// calls were done.
-fn fail_at(rt: &impl Abort, alloc: Global, nth: u64) -> Result<u8, TrialFault> {
+// Makes a tree of two leaves, reads it, makes one leaf of them and drops that. One get will fail.
+fn calls(alloc: Global, nth: u64) -> Result<(), TrialFault> {
     let mut fails = Nths::new(alloc);
     fails.push(nth)?;
     let mut tree = MapTree::new(alloc, fails);
-    let done = run(alloc, &mut tree, CALLS)?;
-    if done == CALLS {
-        return Ok(done);
+    put_letters(alloc, &mut tree, b"abcd")?;
+    read_all(alloc, &mut tree)?;
+    del_letter(alloc, &mut tree, b'a')?;
+    del_letter(alloc, &mut tree, b'b')?;
+    tree.drop_all()
+}
+
+// The first get, counted from 1, whose failure is not answered.
+fn first_good(alloc: Global) -> u64 {
+    for nth in 1..100 {
+        if calls(alloc, nth) != Err(FAILED) {
+            return nth;
+        }
     }
-    let mut before = empty_tree(alloc);
-    assert!(rt; run(alloc, &mut before, done)? == done);
-    assert!(rt; are_same(alloc, &mut tree, &mut before)?);
-    Ok(done)
+    100
 }
 
 #[test]
-fn a_failed_get_changes_nothing(rt: HostRuntime) -> Result<(), TrialFault> {
+fn a_fault_is_answered_wherever_a_get_fails(rt: HostRuntime) {
     let alloc = rt.alloc();
-    for nth in 1..200 {
-        if fail_at(&rt, alloc, nth)? == CALLS {
-            assert!(rt; nth > 40);
-            return Ok(());
-        }
-    }
-    assert!(rt; false);
-    Ok(())
+    let good = first_good(alloc);
+    assert!(rt; good > 15);
+    assert!(rt; calls(alloc, good) == Ok(()));
 }

@@ -1,4 +1,4 @@
-use Rattle.std.proofs.Common.{◌≡◌, ◌+◌, ℕ, List, sym, ap, subst, ◌∙◌, arith, inl, inr}
+use Rattle.std.proofs.Common.{◌+◌, List, subst, arith, inr}
 use Rattle.sea_ptree.specs.Making.{Wrote}
 use Rattle.sea_ptree.specs.Node.{Entry}
 use Rattle.sea_ptree.proofs.making.Making.settle_root.Goals as goal

@@ -1,5 +1,4 @@
-use Rattle.std.proofs.Common.{◌≡◌, ℕ, List, length, sym, ap, subst, ◌∙◌, arith}
-use Rattle.sea_ptree.specs.Node.{Entry}
+use Rattle.std.proofs.Common.{ℕ, length, sym, ap, subst, arith}
 use Rattle.sea_ptree.specs.Reading.{AreRead}
 use Rattle.sea_ptree.specs.Tree.{NodeAt}
 use Rattle.sea_ptree.proofs.Fronts.{spelled_read}

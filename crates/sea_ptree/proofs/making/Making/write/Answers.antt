@@ -1,8 +1,6 @@
-use Rattle.std.proofs.Common.{◌≡◌, ℕ, ◌+◌, ◌≤◌, ◌++◌, ◌∷◌, [], List, take, length, rules, refl, ap, ◌∙◌, arith}
+use Rattle.std.proofs.Common.{ℕ, ◌++◌, ◌∷◌, [], List, take, rules, refl, ap, ◌∙◌, arith}
 use Rattle.sea_base.specs.Digest.{sha256}
-use Rattle.sea_ptree.specs.Node.{Entry}
 use Rattle.sea_ptree.proofs.Makings.{first_key}
-use Rattle.sea_ptree.proofs.Rebuilding.{all_places}
 use Rattle.sea_ptree.proofs.making.Making.write.Goals as goal
 
 pub returns : goal.returns

@@ -1,4 +1,4 @@
-use Rattle.std.proofs.Common.{◌≡◌, ◌<◌, ◌/◌, ◌-◌, ℕ, List, [], ◌∷◌, ◌++◌, length, take, drop, refl, sym, ap, subst, ◌∙◌, arith, inl, inr, length-drop}
+use Rattle.std.proofs.Common.{◌≡◌, ◌/◌, ◌-◌, List, [], ◌∷◌, ◌++◌, length, take, drop, ap, subst, ◌∙◌, arith, inr, length-drop}
 use Rattle.std.proofs.lemmas.List.{take_all}
 use Rattle.sea_ptree.specs.Making.{Wrote}
 use Rattle.sea_ptree.specs.Node.{Entry}
