@@ -1,7 +1,7 @@
 -- Chains of records, as they are read, and that there is one alone.
-use Rattle.std.proofs.Common.{◌≡◌, ℕ, ◌+◌, ◌*◌, ◌-◌, ◌<◌, ◌≤◌, ◌^◌, List, [], ◌∷◌, ◌++◌, length, take, drop, refl, sym, ap, ◌∙◌, subst, inl, inr, arith, append_assoc, length-append}
-use Rattle.std.proofs.lemmas.List.{append-nil, drop-drop, length-drop, drop_at}
-use Rattle.sea_record.specs.Record.{BeginsWith, IsRecord, blocks, record_bytes}
+use Rattle.std.proofs.Common.{◌≡◌, ℕ, ◌+◌, ◌*◌, ◌<◌, ◌≤◌, ◌^◌, List, [], ◌∷◌, ◌++◌, length, drop, refl, sym, ap, ◌∙◌, subst, arith, append_assoc, length-append}
+use Rattle.std.proofs.lemmas.List.{append-nil, drop-drop, length-drop}
+use Rattle.sea_record.specs.Record.{BeginsWith, blocks, record_bytes}
 use Rattle.sea_record.specs.declared.record.Record.{Record}
 use Rattle.sea_record.proofs.RecordRules.{fits_of}
 use Rattle.sea_record.proofs.Records.{same_record, length-record_bytes}

@@ -1,6 +1,6 @@
 -- How a trail grows: by records behind it, and by a new segment.
 use Rattle.std.proofs.Common.{◌≡◌, ℕ, ◌+◌, ◌-◌, ◌*◌, ◌<◌, ◌≤◌, ◌⊎◌, List, [], ◌∷◌, ◌++◌, length, take, drop, refl, sym, ap, ◌∙◌, subst, inl, inr, arith, append_assoc, length-append}
-use Rattle.std.specs.List.{All, flat_map}
+use Rattle.std.specs.List.{All}
 use Rattle.std.proofs.lemmas.List.{append-nil, drop-drop, drop-take, take-take, take_at, take-append-drop}
 use Rattle.std.proofs.lemmas.List.Elements.{All-head, All-tail}
 use Rattle.std.proofs.lemmas.List.Concat.{flat_map-append}
@@ -13,9 +13,9 @@ use Rattle.sea_segment.specs.declared.header.Header.{Header}
 use Rattle.sea_trail.specs.declared.link.Link.{Link}
 use Rattle.sea_trail.specs.declared.trail.Part.{Part}
 use Rattle.sea_trail.specs.declared.trail.Trail.{Trail}
-use Rattle.sea_trail.specs.Trail.{AreClosed, AreFrom, AreHeaders, AreLinked, AreParts, Continues, FollowOn, Follows, HasChain, HasHeader, HasSegments, IsChain, IsNewest, IsNumbered, IsOpen, IsSuper, IsTrail, StandsIn, block_of, body_of, chain_end, first_block, header_block, header_link, last_link, link_of, records_in, trail_link}
+use Rattle.sea_trail.specs.Trail.{AreClosed, AreFrom, AreLinked, AreParts, FollowOn, Follows, HasChain, HasHeader, HasSegments, IsChain, IsNewest, IsNumbered, IsOpen, IsSuper, IsTrail, StandsIn, block_of, body_of, chain_end, first_block, header_block, header_link, last_link, link_of, records_in, trail_link}
 use Rattle.sea_trail.specs.Laws.{GrowsTo, KeepsLinks, RollsTo, SameSegment, grown_part, rest_of}
-use Rattle.sea_trail.proofs.Chains.{blocks-some, chain_end-append, last_link-append}
+use Rattle.sea_trail.proofs.Chains.{chain_end-append, last_link-append}
 use Rattle.sea_trail.proofs.Joined.{AreLinked-more, AreParts-more}
 
 All-behind : {X : Type 0} (P : X → Type 0) (xs ys : List X) → All P (xs ++ ys) → All P ys

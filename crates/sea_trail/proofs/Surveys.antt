@@ -2,14 +2,14 @@
 use Rattle.std.proofs.Common.{◌≡◌, ℕ, suc, ◌+◌, ◌<◌, ◌≤◌, ◌⊎◌, Bool, true, false, cond, List, [], ◌∷◌, ◌++◌, length, get_or, drop, drop-cons, Option, Some, None, refl, sym, ap, ◌∙◌, subst, inl, inr, arith}
 use Rattle.std.specs.Prelude.{◌==◌, map, MatchOption, IfSome}
 use Rattle.std.specs.List.{find}
-use Rattle.std.proofs.lemmas.Bool.{cases_lt, cases_eq, eqb-true, eqb-false, eq-eqb, ne_eqb}
+use Rattle.std.proofs.lemmas.Bool.{cases_lt, eqb-true, eqb-false, eq-eqb, ne_eqb}
 use Rattle.std.proofs.lemmas.List.{drop_all}
 use Rattle.sea_segment.specs.Header.{SpellsHeader}
 use Rattle.sea_segment.specs.declared.header.Header.{Header}
 use Rattle.sea_segment.proofs.Headers.{same_header}
 use Rattle.sea_trail.specs.declared.survey.Found.{Found}
 use Rattle.sea_trail.specs.declared.survey.Survey.{Survey}
-use Rattle.sea_trail.specs.Trail.{AreHeaders, HasHeader, IsNewest, IsNumbered, NoHeader, StandsIn, block_of, header_block, header_link}
+use Rattle.sea_trail.specs.Trail.{AreHeaders, HasHeader, IsNumbered, NoHeader, StandsIn, block_of, header_block, header_link}
 use Rattle.sea_trail.specs.Parts.{AreFit, AreFound, IsFit, IsFoundIn, IsNewestFound, IsSurvey, SpellsNone, SurveyFits}
 
 -- a header stands in a segment that it names

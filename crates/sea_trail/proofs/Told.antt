@@ -1,9 +1,8 @@
 -- What was read tells the trail of an image, or why it has none.
-use Rattle.std.proofs.Common.{◌≡◌, ℕ, ◌+◌, ◌-◌, ◌*◌, ◌/◌, ◌<◌, ◌≤◌, List, [], ◌∷◌, ◌++◌, length, get_or, take, drop, refl, sym, ap, ◌∙◌, subst, arith, codes}
-use Rattle.std.specs.Prelude.{map, slice_range}
+use Rattle.std.proofs.Common.{◌≡◌, ℕ, ◌+◌, ◌-◌, ◌*◌, ◌<◌, ◌≤◌, List, [], ◌∷◌, ◌++◌, length, get_or, take, drop, refl, sym, ap, subst, arith}
+use Rattle.std.specs.Prelude.{map}
 use Rattle.std.proofs.lemmas.List.{length-take, length-drop}
 use Rattle.sea_record.specs.declared.record.Record.{Record}
-use Rattle.sea_segment.specs.Superblock.{SpellsAnySuper}
 use Rattle.sea_segment.specs.declared.header.Header.{Header}
 use Rattle.sea_segment.proofs.Supers.{super_shape}
 use Rattle.sea_trail.specs.declared.fault.ImageWhy.{ImageWhy}
@@ -12,7 +11,7 @@ use Rattle.sea_trail.specs.declared.survey.Found.{Found}
 use Rattle.sea_trail.specs.declared.trail.Part.{Part}
 use Rattle.sea_trail.specs.declared.trail.Trail.{Trail}
 use Rattle.sea_trail.specs.declared.link.Link.{Link}
-use Rattle.sea_trail.specs.Trail.{AreHeaders, AreParts, HasHeader, IsSuper, HasSuper, HasSegments, HasChain, IsNewest, IsOpen, IsTrail, AreClosed, AreLinked, AreFrom, NoHeader, block_of, blocks_needed, records_in, trail_link}
+use Rattle.sea_trail.specs.Trail.{AreHeaders, AreParts, HasHeader, IsSuper, HasSegments, HasChain, IsNewest, IsOpen, IsTrail, AreLinked, AreFrom, NoHeader, block_of, blocks_needed, records_in, trail_link}
 use Rattle.sea_trail.specs.Refusals.{HasNoSegment, IsBreak, IsBad, IsMissing, IsRefused, ahead, torn, astray}
 use Rattle.sea_trail.specs.Parts.{HasFirst, IsFirstWhy, IsTold, IsPlaced, IsPlace, HasNoPlace}
 use Rattle.sea_trail.proofs.Chains.{ArePlaced-chain}

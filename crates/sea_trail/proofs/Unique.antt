@@ -1,5 +1,5 @@
 -- An image has one trail alone, and isn't refused then.
-use Rattle.std.proofs.Common.{◌≡◌, ℕ, ◌+◌, ◌*◌, ◌/◌, ◌<◌, ◌≤◌, List, [], ◌∷◌, ◌++◌, length, refl, sym, ap, ◌∙◌, subst, inl, inr, arith, length-append}
+use Rattle.std.proofs.Common.{◌≡◌, ℕ, ◌+◌, ◌<◌, ◌≤◌, List, [], ◌∷◌, ◌++◌, length, refl, sym, ap, ◌∙◌, subst, inl, inr, arith}
 use Rattle.std.proofs.lemmas.Bool.{cases_lt}
 use Rattle.sea_record.specs.Record.{blocks}
 use Rattle.sea_record.specs.declared.record.Record.{Record}
@@ -13,7 +13,7 @@ use Rattle.sea_trail.specs.declared.fault.ImageWhy.TheVariants.{NoSuper, OldForm
 use Rattle.sea_trail.specs.declared.link.Link.{Link}
 use Rattle.sea_trail.specs.declared.trail.Part.{Part}
 use Rattle.sea_trail.specs.declared.trail.Trail.{Trail}
-use Rattle.sea_trail.specs.Trail.{AreClosed, AreFrom, AreHeaders, AreLinked, AreParts, FollowOn, Follows, HasChain, HasHeader, HasSegments, IsChain, IsNewest, IsNumbered, IsOpen, IsTrail, NoHeader, StandsIn, body_of, chain_end, first_block, header_link, last_link, block_of, header_block, records_in, trail_link}
+use Rattle.sea_trail.specs.Trail.{AreClosed, AreFrom, AreHeaders, AreLinked, AreParts, HasChain, HasHeader, HasSegments, IsChain, IsNewest, IsNumbered, IsOpen, IsTrail, StandsIn, body_of, chain_end, first_block, header_link, last_link, block_of, header_block, records_in, trail_link}
 use Rattle.sea_trail.specs.Refusals.{IsBad, IsBreak, IsRefused, ahead, torn, astray}
 use Rattle.sea_trail.proofs.Chains.{blocks-some, same_chain}
 use Rattle.sea_trail.proofs.Growth.{chain_end-ge, last_linked}

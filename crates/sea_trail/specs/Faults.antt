@@ -1,5 +1,5 @@
 -- What a fault of a scan says.
-use Rattle.std.specs.Prelude.{◌≡◌, ℕ, ◌≤◌, Result, IsErrOf}
+use Rattle.std.specs.Prelude.{ℕ, ◌≤◌, Result, IsErrOf}
 use Rattle.sea_base.specs.Faults.{FaultsRose}
 use Rattle.sea_trail.specs.declared.fault.ReadFault.{ReadFault}
 use Rattle.sea_trail.specs.declared.fault.ReadFault.TheVariants as reads

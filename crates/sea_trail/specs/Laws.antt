@@ -6,19 +6,16 @@ use Rattle.sea_segment.specs.declared.header.Header.{Header}
 use Rattle.sea_trail.specs.declared.fault.ImageWhy.{ImageWhy}
 use Rattle.sea_trail.specs.declared.trail.Part.{Part}
 use Rattle.sea_trail.specs.declared.trail.Trail.{Trail}
-use Rattle.sea_trail.specs.Trail.{IsTrail, IsChain, HasHeader, AreHeaders, AreFrom, Follows, StandsIn, block_of, body_of, header_block, header_link, first_block, chain_end, last_link, trail_link}
+use Rattle.sea_trail.specs.Trail.{IsTrail, IsChain, HasHeader, AreHeaders, AreFrom, Follows, block_of, body_of, header_block, header_link, first_block, chain_end, last_link, trail_link}
 use Rattle.sea_trail.specs.Refusals.{IsRefused}
 
 -- an image has one trail alone
 abbrev pub OneTrail : Type 0
 OneTrail = (image : List ℕ) (t u : Trail) → IsTrail image t → IsTrail image u → t ≡ u
 
--- what has a trail isn't refused, and nothing is refused for two reasons
+-- what has a trail isn't refused
 abbrev pub NotBoth : Type 0
 NotBoth = (image : List ℕ) (t : Trail) (why : ImageWhy) → IsTrail image t → IsRefused image why → ⊥
-
-abbrev pub OneReason : Type 0
-OneReason = (image : List ℕ) (x y : ImageWhy) → IsRefused image x → IsRefused image y → x ≡ y
 
 -- ---- another image with the links of a trail
 

@@ -1,5 +1,5 @@
 -- What the parts of an image that are read stand for.
-use Rattle.std.specs.Prelude.{◌≡◌, ℕ, ◌+◌, ◌*◌, ◌<◌, ◌≤◌, List, [], ◌∷◌, ◌++◌, length, take, Option, Some, None, IfSome}
+use Rattle.std.specs.Prelude.{◌≡◌, ℕ, ◌+◌, ◌<◌, ◌≤◌, List, [], ◌∷◌, ◌++◌, length, take, Option, Some, None, IfSome}
 use Rattle.sea_record.specs.Record.{blocks}
 use Rattle.sea_record.specs.declared.record.Record.{Record}
 use Rattle.sea_segment.specs.Header.{SpellsHeader}

@@ -19,6 +19,3 @@ pub use link::Link;
 pub use place::{SEGMENT_BLOCKS, blocks_needed, first_block, header_block};
 pub use scanning::scan;
 pub use trail::{Part, Trail};
-
-#[cfg(test)]
-mod tests;

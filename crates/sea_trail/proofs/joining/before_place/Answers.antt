@@ -1,4 +1,4 @@
-use Rattle.std.proofs.Common.{◌≡◌, ◌≤◌, ◌<◌, ℕ, length, sym, ap, ◌∙◌, arith, below_more}
+use Rattle.std.proofs.Common.{length, sym, ap, ◌∙◌, arith, below_more}
 use Rattle.std.proofs.lemmas.Bool.{eqb-true, eqb-false}
 use Rattle.sea_trail.proofs.Places.{found_place, no_place}
 use Rattle.sea_trail.proofs.joining.before_place.Goals as goal

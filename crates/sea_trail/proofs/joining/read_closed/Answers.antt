@@ -1,6 +1,4 @@
-use Rattle.std.proofs.Common.{◌≡◌, ℕ, ◌+◌, ◌≤◌, List, [], ◌∷◌, ◌++◌, length, sym, ap, ◌∙◌, subst, arith, length-append}
-use Rattle.sea_segment.specs.declared.header.Header.{Header}
-use Rattle.sea_trail.specs.declared.trail.Part.{Part}
+use Rattle.std.proofs.Common.{◌≡◌, ℕ, ◌≤◌, List, [], ◌∷◌, ◌++◌, length, sym, ap, ◌∙◌, subst, arith, length-append}
 use Rattle.sea_trail.specs.Parts.{AreFound, IsFit}
 use Rattle.sea_trail.specs.Trail.{AreParts, HasChain, IsNumbered, IsOpen}
 use Rattle.sea_trail.proofs.Joined.{AreParts-more}

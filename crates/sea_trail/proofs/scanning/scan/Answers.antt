@@ -1,4 +1,4 @@
-use Rattle.std.proofs.Common.{◌≡◌, ℕ, ◌≤◌, ◌∙◌, arith}
+use Rattle.std.proofs.Common.{arith}
 use Rattle.sea_trail.specs.Parts.{IsFit}
 use Rattle.sea_trail.proofs.Telling.{IfSome-at}
 use Rattle.sea_trail.proofs.scanning.scan.Given.{Over}

@@ -1,4 +1,4 @@
-use Rattle.std.proofs.Common.{◌≡◌, ◌≤◌, ℕ, ◌∙◌, sym, arith}
+use Rattle.std.proofs.Common.{◌≡◌, ◌≤◌, ◌∙◌, arith}
 use Rattle.sea_segment.proofs.Supers.{same_super}
 use Rattle.sea_trail.proofs.superblock.segments_in.Goals as goal
 

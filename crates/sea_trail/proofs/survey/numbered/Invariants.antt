@@ -1,4 +1,4 @@
-use Rattle.std.proofs.Common.{◌≡◌, ℕ, drop}
+use Rattle.std.proofs.Common.{◌≡◌, drop}
 use Rattle.sea_trail.proofs.Surveys.{with_number}
 use Rattle.sea_trail.proofs.survey.numbered.Given as goal
 
