@@ -30,51 +30,39 @@ fn a_plan_holds_each_client_s_requests_in_order(rt: HostRuntime) -> Result<(), F
     Ok(())
 }
 
+fn done(alloc: Global) -> Reply {
+    Reply::Done(Items::new(alloc))
+}
+
 #[test]
 fn a_history_numbers_the_entries_of_each_client(rt: HostRuntime) -> Result<(), Fail> {
     let alloc = rt.alloc();
     let mut history = History::new(alloc, 2)?;
-    for client in [2, 1, 2, 2] {
-        history.reserve()?;
-        history.add(client, Reply::Done(Items::new(alloc)));
-    }
+    history.reserve()?;
+    history.add(2, done(alloc));
+    history.reserve()?;
+    history.add(1, done(alloc));
     history.acknowledge();
     history.note_back();
     history.reserve()?;
-    history.add(
-        1,
-        Reply::Full {
-            need: 1,
-            rest: 0,
-            empty: 0,
-        },
-    );
+    history.add(2, done(alloc));
     let mut numbers = Vec::new(alloc);
     for entry in history.entries() {
         numbers.push((entry.client, entry.number))?;
     }
-    assert_eq!(rt;
-        numbers.as_slice(),
-        [(2, 1), (1, 1), (2, 2), (2, 3), (1, 2)].as_slice()
-    );
-    assert_eq!(rt; history.acknowledged(), 4);
+    assert_eq!(rt; numbers.as_slice(), [(2, 1), (1, 1), (2, 2)].as_slice());
+    assert_eq!(rt; history.acknowledged(), 2);
     assert_eq!(rt; history.sent_back(), 1);
     Ok(())
 }
 
 #[test]
 fn a_history_takes_200_entries(rt: HostRuntime) -> Result<(), Fail> {
-    let mut history = History::new(rt.alloc(), 16)?;
-    for round in 0..200u32 {
+    let alloc = rt.alloc();
+    let mut history = History::new(alloc, 16)?;
+    'rounds: for round in 0..200u32 {
         history.reserve()?;
-        history.add(
-            round % 16 + 1,
-            Reply::Full {
-                need: 1,
-                rest: 0,
-                empty: 0,
-            },
-        );
+        history.add(round % 16 + 1, done(alloc));
     }
     assert_eq!(rt; history.entries().len(), 200);
     assert_eq!(rt; history.entries()[199].number, 13);
