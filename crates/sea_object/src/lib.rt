@@ -20,6 +20,3 @@ pub use op::{Kind, OBJECT_BYTES, Op, Ops, READ_BYTES, VALUE_BYTES};
 pub use reply::{Item, Items, Reply, Why};
 pub use request::{Request, RequestFault};
 pub use values::Values;
-
-#[cfg(test)]
-mod tests;
