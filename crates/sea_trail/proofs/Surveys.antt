@@ -77,7 +77,7 @@ IsNewestFound-past image s (Some f) is here =
     )
 
 -- each header up to the next segment stands before it, or is the one there
-before_or : (image : List ℕ) (s : ℕ) (f : Found) (k : Header) → IsFoundIn (block_of image (header_block s)) s f → HasHeader image (s + 1) k → HasHeader image s k ⊎ (k ≡ f.header)
+pub before_or : (image : List ℕ) (s : ℕ) (f : Found) (k : Header) → IsFoundIn (block_of image (header_block s)) s f → HasHeader image (s + 1) k → HasHeader image s k ⊎ (k ≡ f.header)
 before_or image s f k is has =
     elim (cases_lt k.segment s) [
       | inl lt ↦ inl (record { within = lt; stands = has.stands })

@@ -94,10 +94,10 @@ same_from place (p ∷ ps) rs ss from_r from_s =
 
 -- ---- what is found of an image, whatever comes of it
 
-same_segments : (image : List ℕ) (m n : ℕ) → HasSegments image m → HasSegments image n → m ≡ n
+pub same_segments : (image : List ℕ) (m n : ℕ) → HasSegments image m → HasSegments image n → m ≡ n
 same_segments image m n has_m has_n = (same_super (block_of image 0) 1 1 m n has_m.super.spells has_n.super.spells).1
 
-same_open : (image : List ℕ) (m n : ℕ) (p q : Part) → IsOpen image m p → IsOpen image n q → p ≡ q
+pub same_open : (image : List ℕ) (m n : ℕ) (p q : Part) → IsOpen image m p → IsOpen image n q → p ≡ q
 same_open image m n p q is_p is_q =
     let same : m ≡ n = same_segments image m n is_p.super is_q.super in
     same_part image p q is_p.chain is_q.chain (same_newest image n p.header q.header (subst (λ (k : ℕ). IsNewest image k p.header) same is_p.newest) is_q.newest)
@@ -111,7 +111,7 @@ pub record SameParts (image : List ℕ) (segments : ℕ) (p : Part) (xs : List P
   pub open_part : p ≡ q
   pub closed : xs ≡ ys
 
-same_both : (image : List ℕ) (m n : ℕ) (p q : Part) (xs ys : List Part) → IsOpen image m p → IsOpen image n q → AreClosed image m p xs → AreClosed image n q ys → SameParts image m p xs n q ys
+pub same_both : (image : List ℕ) (m n : ℕ) (p q : Part) (xs ys : List Part) → IsOpen image m p → IsOpen image n q → AreClosed image m p xs → AreClosed image n q ys → SameParts image m p xs n q ys
 same_both image m n p q xs ys is_p is_q are_x are_y =
     let count : m ≡ n = same_segments image m n is_p.super is_q.super in
     let same : p ≡ q = same_open image m n p q is_p is_q in
@@ -160,7 +160,7 @@ one_trail image t u is_t is_u =
     ∙ ap (made_trail u.segments u.active u.seq u.end (trail_link u) u.records) headers
 
 -- segments that all go on from one another have no break
-no_break : (ps : List Part) (block : ℕ) → AreLinked ps → IsBreak ps block → ⊥
+pub no_break : (ps : List Part) (block : ℕ) → AreLinked ps → IsBreak ps block → ⊥
 no_break ps block linked breaks =
     let rest : AreLinked (breaks.part ∷ breaks.next ∷ breaks.back) = last_linked breaks.front (breaks.part ∷ breaks.next ∷ breaks.back) (subst AreLinked breaks.cut linked) in
     breaks.broken rest.0

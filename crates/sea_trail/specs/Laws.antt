@@ -17,6 +17,10 @@ OneTrail = (image : List ℕ) (t u : Trail) → IsTrail image t → IsTrail imag
 abbrev pub NotBoth : Type 0
 NotBoth = (image : List ℕ) (t : Trail) (why : ImageWhy) → IsTrail image t → IsRefused image why → ⊥
 
+-- an image is refused for one reason alone
+abbrev pub OneReason : Type 0
+OneReason = (image : List ℕ) (a b : ImageWhy) → IsRefused image a → IsRefused image b → a ≡ b
+
 -- ---- another image with the links of a trail
 
 -- a segment is as it was

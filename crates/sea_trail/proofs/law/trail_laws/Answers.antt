@@ -1,4 +1,5 @@
 use Rattle.sea_trail.proofs.Growth.{grows, grows_from, rolls}
+use Rattle.sea_trail.proofs.Reasons.{one_reason}
 use Rattle.sea_trail.proofs.Unique.{not_both, one_trail}
 use Rattle.sea_trail.proofs.law.trail_laws.Goals as goal
 
@@ -7,6 +8,9 @@ returns-clause-one c = one_trail
 
 pub returns-clause-not_both : goal.returns-clause-not_both
 returns-clause-not_both c = not_both
+
+pub returns-clause-one_reason : goal.returns-clause-one_reason
+returns-clause-one_reason c = one_reason
 
 pub returns-clause-grows : goal.returns-clause-grows
 returns-clause-grows c = grows
