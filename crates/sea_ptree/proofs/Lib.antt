@@ -20,4 +20,5 @@ pub mod Roofs
 pub mod Roots
 pub mod Searches
 pub mod Steps
+pub mod Visits
 pub mod Walks

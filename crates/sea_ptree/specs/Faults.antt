@@ -24,10 +24,12 @@ pub record IsNoNode (kind : Kind) (image : Image) (level : ℕ) (link : Link) : 
 abbrev pub IsNodeFault : Kind → Held → Held → ℕ → Link → PFault → Type 0
 IsNodeFault kind old new level link (Space fault) = IsBlockFault old new link.at.0 link.sum.0 fault
 IsNodeFault kind old new level link (NoNode block) =
-    (new.faults ≡ old.faults) × (block ≡ link.at) × (IsTrue old.tells → IsNoNode kind old.image level link)
+    (new.faults ≡ old.faults) × (block ≡ link.at)
+    × (IsTrue old.tells → IsNoNode kind old.image level link)
 
 -- a node that is reached from a link was not read
-pub record IsFaultBelow (Step : List Entry → Entry → Type 0) (kind : Kind) (old new : Held) (top : ℕ) (from : Link) (fault : PFault) : Type 0 where
+pub record IsFaultBelow (Step : List Entry → Entry → Type 0) (kind : Kind) (old new : Held)
+    (top : ℕ) (from : Link) (fault : PFault) : Type 0 where
   pub level : ℕ
   pub link : Link
   pub node : IsNodeFault kind old new level link fault
@@ -40,18 +42,23 @@ IsWant old new (Space DeviceFault) = ⊥
 IsWant old new (Space (Damaged block kept found)) = ⊥
 IsWant old new (NoNode block) = ⊥
 
-abbrev pub IsFaultFrom : (List Entry → Entry → Type 0) → Kind → Held → Held → ℕ → Link → PFault → Type 0
+abbrev pub IsFaultFrom : (List Entry → Entry → Type 0) → Kind → Held → Held → ℕ → Link → PFault
+    → Type 0
 IsFaultFrom Step kind old new zero from fault = IsWant old new fault
-IsFaultFrom Step kind old new (suc level) from fault = IsFaultBelow Step kind old new level from fault
+IsFaultFrom Step kind old new (suc level) from fault =
+    IsFaultBelow Step kind old new level from fault
 
--- why a call on a tree was not done: a node that is reached from its root was not read, or memory ran out
+-- why a call on a tree was not done: a node that is reached from its root was not read, or memory
+-- ran out
 abbrev pub IsFault : (List Entry → Entry → Type 0) → Kind → Held → Held → PRoot → PFault → Type 0
-IsFault Step kind old new root fault = IsFaultFrom Step kind old new root.height (root_link root) fault
+IsFault Step kind old new root fault =
+    IsFaultFrom Step kind old new root.height (root_link root) fault
 
 -- each link that is reached leads to a node of its level
 abbrev pub IsWhole : (List Entry → Entry → Type 0) → Kind → Image → ℕ → Link → Type 0
 IsWhole Step kind image top from =
-    (level : ℕ) (link : Link) → Reaches Step kind image top from level link → (entries : List Entry) × NodeAt kind image level link entries
+    (level : ℕ) (link : Link) → Reaches Step kind image top from level link
+    → (entries : List Entry) × NodeAt kind image level link entries
 
 abbrev pub IsWholeFrom : (List Entry → Entry → Type 0) → Kind → Image → ℕ → Link → Type 0
 IsWholeFrom Step kind image zero from = Unit {0}
@@ -67,4 +74,5 @@ IsOutside (NoNode block) = ⊥
 -- A tree that keeps its rules, where blocks are told, gives no other fault.
 abbrev pub IsBlameless : Kind → Held → PRoot → PFault → Type 0
 IsBlameless kind held root fault =
-    IsTrue held.tells → (content : Content) (places : List ℕ) → IsTree kind held.image root content places → IsOutside fault
+    IsTrue held.tells → (content : Content) (places : List ℕ)
+    → IsTree kind held.image root content places → IsOutside fault

@@ -12,3 +12,4 @@ pub mod Rebuilding
 pub mod Run
 pub mod Tree
 pub mod View
+pub mod Walking

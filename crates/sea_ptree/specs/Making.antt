@@ -2,11 +2,19 @@
 use Rattle.std.specs.Prelude.{◌≡◌, ℕ, ◌+◌, ◌<◌, ◌^◌, List, [], ◌∷◌, ◌++◌, length}
 use Rattle.sea_base.specs.declared.place.Paddr.{Paddr}
 use Rattle.sea_base.specs.declared.place.PRoot.{PRoot}
+use Rattle.sea_ptree.specs.declared.kind.Kind.{Kind}
 use Rattle.sea_ptree.specs.declared.making.Making.{Making}
 use Rattle.sea_ptree.specs.declared.making.Fresh.{Fresh}
 use Rattle.sea_ptree.specs.Blocks.{HasSum}
 use Rattle.sea_ptree.specs.Node.{Entry, node_bytes}
 use Rattle.sea_ptree.specs.Tree.{least_key}
+
+-- nothing made so far
+pub record Starts (kind : Kind) (place : ℕ) (making : Making) : Type 0 where
+  pub kind_is : making.kind ≡ kind
+  pub place_is : making.place ≡ place
+  pub nodes : making.nodes.items ≡ []
+  pub dead : making.dead.items ≡ []
 
 -- a node goes
 pub record Took (old new : Making) (at : Paddr) : Type 0 where
@@ -16,7 +24,8 @@ pub record Took (old new : Making) (at : Paddr) : Type 0 where
   pub dead : new.dead.items ≡ old.dead.items ++ at ∷ []
 
 -- A fresh node stands behind the others, and an entry leads to it.
-pub record Wrote (old new : Making) (level : ℕ) (entries : List Entry) (entry : Entry) : Type 0 where
+pub record Wrote (old new : Making) (level : ℕ) (entries : List Entry) (entry : Entry)
+    : Type 0 where
   pub kind : new.kind ≡ old.kind
   pub place : new.place ≡ old.place
   pub nodes : new.nodes.items ≡ old.nodes.items ++ node_bytes old.kind level entries ∷ []

@@ -1,5 +1,6 @@
 -- A node that was changed, put among its neighbours.
-use Rattle.std.specs.Prelude.{◌≡◌, ◌⊎◌, ℕ, ◌+◌, ◌/◌, ◌<◌, ◌≤◌, List, [], ◌∷◌, ◌++◌, take, drop, length}
+use Rattle.std.specs.Prelude.{◌≡◌, ◌⊎◌, ℕ, ◌+◌, ◌/◌, ◌<◌, ◌≤◌, List, [], ◌∷◌, ◌++◌, take, drop}
+use Rattle.std.specs.Prelude.{length}
 use Rattle.sea_base.specs.declared.place.PRoot.{PRoot}
 use Rattle.sea_base.specs.declared.place.Slot.{Slot}
 use Rattle.sea_ptree.specs.declared.fault.PFault.{PFault}
@@ -17,10 +18,12 @@ IsAt entries index entry = drop index entries ≡ entry ∷ drop (index + 1) ent
 
 -- a node that an entry leads to was not read
 abbrev pub IsFaultNear : Kind → Held → Held → ℕ → List Entry → PFault → Type 0
-IsFaultNear kind old new level entries fault = (entry : Entry) × Has entries entry × IsNodeFault kind old new level (link_of entry.1) fault
+IsFaultNear kind old new level entries fault =
+    (entry : Entry) × Has entries entry × IsNodeFault kind old new level (link_of entry.1) fault
 
 -- A child has entries enough, or no neighbour.
-pub record IsAlone (entries : List Entry) (index : ℕ) (below : List Entry) (old new : Making) (from to : ℕ) (all : List Entry) : Type 0 where
+pub record IsAlone (entries : List Entry) (index : ℕ) (below : List Entry) (old new : Making)
+    (from to : ℕ) (all : List Entry) : Type 0 where
   pub from_is : from ≡ index
   pub to_is : to ≡ index + 1
   pub all_is : all ≡ below
@@ -28,9 +31,12 @@ pub record IsAlone (entries : List Entry) (index : ℕ) (below : List Entry) (ol
   pub enough : (37 ≤ length below) ⊎ (length entries ≡ 1)
 
 -- It has too few, and goes together with the one behind it.
-pub record IsWithRight (kind : Kind) (image : Image) (level : ℕ) (entries : List Entry) (index : ℕ) (below : List Entry) (old new : Making) (from to : ℕ) (all : List Entry) : Type 0 where
+pub record IsWithRight (kind : Kind) (image : Image) (level : ℕ) (entries : List Entry)
+    (index : ℕ) (below : List Entry) (old new : Making) (from to : ℕ) (all : List Entry)
+    : Type 0 where
   pub next : Entry
   pub beside : List Entry
+  pub few : length below < 37
   pub from_is : from ≡ index
   pub to_is : to ≡ index + 2
   pub there : IsAt entries (index + 1) next
@@ -39,9 +45,13 @@ pub record IsWithRight (kind : Kind) (image : Image) (level : ℕ) (entries : Li
   pub all_is : all ≡ below ++ beside
 
 -- It is the last, has too few, and goes together with the one before it.
-pub record IsWithLeft (kind : Kind) (image : Image) (level : ℕ) (entries : List Entry) (index : ℕ) (below : List Entry) (old new : Making) (from to : ℕ) (all : List Entry) : Type 0 where
+pub record IsWithLeft (kind : Kind) (image : Image) (level : ℕ) (entries : List Entry)
+    (index : ℕ) (below : List Entry) (old new : Making) (from to : ℕ) (all : List Entry)
+    : Type 0 where
   pub previous : Entry
   pub beside : List Entry
+  pub few : length below < 37
+  pub last : index + 1 ≡ length entries
   pub from_is : from + 1 ≡ index
   pub to_is : to ≡ index + 1
   pub there : IsAt entries from previous
@@ -49,7 +59,8 @@ pub record IsWithLeft (kind : Kind) (image : Image) (level : ℕ) (entries : Lis
   pub took : Took old new previous.1.at
   pub all_is : all ≡ beside ++ below
 
-abbrev pub Gathered : Kind → Image → ℕ → List Entry → ℕ → List Entry → Making → Making → ℕ → ℕ → List Entry → Type 0
+abbrev pub Gathered : Kind → Image → ℕ → List Entry → ℕ → List Entry → Making → Making → ℕ → ℕ
+    → List Entry → Type 0
 Gathered kind image level entries index below old new from to all =
     IsAlone entries index below old new from to all
     ⊎ (IsWithRight kind image level entries index below old new from to all
@@ -80,11 +91,14 @@ pub record WroteTwo (old new : Making) (level : ℕ) (entries parts : List Entry
   pub back : Wrote mid new level (drop (length entries / 2) entries) second
 
 abbrev pub WroteParts : Making → Making → ℕ → List Entry → List Entry → Type 0
-WroteParts old new level entries parts = WroteNone old new entries parts ⊎ (WroteOne old new level entries parts ⊎ WroteTwo old new level entries parts)
+WroteParts old new level entries parts =
+    WroteNone old new entries parts
+    ⊎ (WroteOne old new level entries parts ⊎ WroteTwo old new level entries parts)
 
 -- ---- what becomes of the node above
 
-pub record IsSettled (kind : Kind) (image : Image) (level : ℕ) (entries : List Entry) (index : ℕ) (below : List Entry) (old new : Making) (made : List Entry) : Type 0 where
+pub record IsSettled (kind : Kind) (image : Image) (level : ℕ) (entries : List Entry) (index : ℕ)
+    (below : List Entry) (old new : Making) (made : List Entry) : Type 0 where
   pub from : ℕ
   pub to : ℕ
   pub all : List Entry
@@ -107,14 +121,16 @@ pub record RootNone (old new : Making) (entries : List Entry) (root : PRoot) : T
   pub same : new ≡ old
 
 -- one child alone is the root
-pub record RootChild (old new : Making) (level : ℕ) (entries : List Entry) (root : PRoot) : Type 0 where
+pub record RootChild (old new : Making) (level : ℕ) (entries : List Entry) (root : PRoot)
+    : Type 0 where
   pub only : Entry
   pub above : 1 ≤ level
   pub one : entries ≡ only ∷ []
   pub root_is : root ≡ root_of only.1 level
   pub same : new ≡ old
 
-pub record RootWritten (old new : Making) (level : ℕ) (entries : List Entry) (root : PRoot) : Type 0 where
+pub record RootWritten (old new : Making) (level : ℕ) (entries : List Entry) (root : PRoot)
+    : Type 0 where
   pub entry : Entry
   pub some : 1 ≤ length entries
   pub least : least_of_root level ≤ length entries
@@ -123,7 +139,8 @@ pub record RootWritten (old new : Making) (level : ℕ) (entries : List Entry) (
   pub root_is : root ≡ root_of entry.1 (level + 1)
 
 -- a root over two halves
-pub record RootSplit (old new : Making) (level : ℕ) (entries : List Entry) (root : PRoot) : Type 0 where
+pub record RootSplit (old new : Making) (level : ℕ) (entries : List Entry) (root : PRoot)
+    : Type 0 where
   pub parts : List Entry
   pub entry : Entry
   pub mid : Making
@@ -135,4 +152,6 @@ pub record RootSplit (old new : Making) (level : ℕ) (entries : List Entry) (ro
 
 abbrev pub SettlesRoot : Making → Making → ℕ → List Entry → PRoot → Type 0
 SettlesRoot old new level entries root =
-    RootNone old new entries root ⊎ (RootChild old new level entries root ⊎ (RootWritten old new level entries root ⊎ RootSplit old new level entries root))
+    RootNone old new entries root
+    ⊎ (RootChild old new level entries root
+    ⊎ (RootWritten old new level entries root ⊎ RootSplit old new level entries root))

@@ -1,5 +1,6 @@
 -- Physical nodes, and how a block spells one.
-use Rattle.std.specs.Prelude.{◌≡◌, ℕ, zero, suc, ◌-◌, ◌*◌, ◌<◌, ◌≤◌, ◌^◌, List, [], ◌∷◌, ◌++◌, length, replicate, codes, IsTrue}
+use Rattle.std.specs.Prelude.{◌≡◌, ℕ, zero, suc, ◌-◌, ◌*◌, ◌<◌, ◌≤◌, ◌^◌, List, [], ◌∷◌, ◌++◌}
+use Rattle.std.specs.Prelude.{length, replicate, codes, IsTrue}
 use Rattle.std.specs.List.{AllByRecursion, flat_map}
 use Rattle.std.specs.Ordering.{nat_cmp}
 use Rattle.std.specs.FinMap.Entries.{is_sorted}
@@ -17,8 +18,8 @@ abbrev pub word : Kind → List ℕ
 word Mapping = codes "SLBA"
 word Owners = codes "SOWN"
 
--- The fields of a slot, in a node of a level. Above the leaves it is the place and the sum of a child. In a
--- leaf of owners its version is the owner's address.
+-- The fields of a slot, in a node of a level. Above the leaves it is the place and the sum of a
+-- child. In a leaf of owners its version is the owner's address.
 abbrev pub MayStand : Kind → ℕ → Slot → Type 0
 MayStand kind (suc level) slot = slot.version.0 ≡ 0
 MayStand Mapping zero slot = Unit {0}
@@ -45,7 +46,9 @@ pub record IsNode (kind : Kind) (level : ℕ) (entries : List Entry) : Type 0 wh
   pub slots : AllByRecursion (λ e. MayStand kind level e.1) entries
 
 abbrev pub entry_bytes : Entry → List ℕ
-entry_bytes entry = big_endian 8 entry.0 ++ big_endian 4 entry.1.at.0 ++ big_endian 8 entry.1.version.0 ++ big_endian 8 entry.1.sum.0
+entry_bytes entry =
+    big_endian 8 entry.0 ++ big_endian 4 entry.1.at.0 ++ big_endian 8 entry.1.version.0
+    ++ big_endian 8 entry.1.sum.0
 
 abbrev pub entries_bytes : List Entry → List ℕ
 entries_bytes entries = flat_map entry_bytes entries
@@ -57,7 +60,8 @@ front_bytes kind level count = word kind ++ level ∷ 0 ∷ [] ++ big_endian 2 c
 -- the front, the entries of 28 bytes each, and zeros
 unfoldable pub node_bytes : Kind → ℕ → List Entry → List ℕ
 node_bytes kind level entries =
-    front_bytes kind level (length entries) ++ entries_bytes entries ++ replicate (4064 - 28 * length entries) 0
+    front_bytes kind level (length entries) ++ entries_bytes entries
+    ++ replicate (4064 - 28 * length entries) 0
 
 -- the bytes of a block spell this node
 pub record Spells (kind : Kind) (bytes : List ℕ) (level : ℕ) (entries : List Entry) : Type 0 where

@@ -1,5 +1,6 @@
 -- What the parts of a block that are read stand for.
-use Rattle.std.specs.Prelude.{◌≡◌, ℕ, ◌+◌, ◌-◌, ◌*◌, ◌≤◌, List, length, take, drop, replicate, slice_range}
+use Rattle.std.specs.Prelude.{◌≡◌, ℕ, ◌+◌, ◌-◌, ◌*◌, ◌≤◌, List, length, take, drop, replicate}
+use Rattle.std.specs.Prelude.{slice_range}
 use Rattle.std.specs.List.{AllByRecursion}
 use Rattle.sea_ptree.specs.declared.kind.Kind.{Kind}
 use Rattle.sea_ptree.specs.Node.{Entry, Fits, front_bytes, entries_bytes}

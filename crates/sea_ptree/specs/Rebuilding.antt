@@ -13,13 +13,19 @@ use Rattle.sea_ptree.specs.Tree.{Item, pairs, places, entry_of, Stands, Holds}
 abbrev pub fresh_places : Making → List ℕ
 fresh_places making = places_from making.place (length making.nodes.items)
 
--- Some nodes stand in the place of others: what is written comes to the new ones, what goes is of the old.
+-- Some nodes stand in the place of others: what is written comes to the new ones, what goes is of
+-- the old.
 pub record Exchanges (old new : Making) (was is : List ℕ) : Type 0 where
-  pub balance : (at : ℕ) → times at is + (times at (numbers new.dead.items) + times at (fresh_places old)) ≡ times at was + (times at (numbers old.dead.items) + times at (fresh_places new))
-  pub dead : (at : ℕ) → times at (numbers new.dead.items) ≤ times at (numbers old.dead.items) + times at was
+  pub balance : (at : ℕ)
+      → times at is + (times at (numbers new.dead.items) + times at (fresh_places old))
+      ≡ times at was + (times at (numbers old.dead.items) + times at (fresh_places new))
+  pub dead : (at : ℕ)
+      → times at (numbers new.dead.items) ≤ times at (numbers old.dead.items) + times at was
 
--- Items of a level stand in an image, by these entries and with these pairs, where nodes stood at other places.
-pub record Rebuilt (kind : Kind) (image : Image) (level : ℕ) (entries held : List Entry) (old new : Making) (was : List ℕ) : Type 0 where
+-- Items of a level stand in an image, by these entries and with these pairs, where nodes stood at
+-- other places.
+pub record Rebuilt (kind : Kind) (image : Image) (level : ℕ) (entries held : List Entry)
+    (old new : Making) (was : List ℕ) : Type 0 where
   pub items : List (Item level)
   pub entries_are : map (entry_of level) items ≡ entries
   pub stand : AllByRecursion (Stands kind image level) items
@@ -28,10 +34,13 @@ pub record Rebuilt (kind : Kind) (image : Image) (level : ℕ) (entries held : L
   pub pairs_are : flat_map (pairs level) items ≡ held
   pub exchanges : Exchanges old new was (flat_map (places level) items)
 
--- The same for the node that a link leads to, in every image that has the fresh nodes, and the others where
--- they were.
-abbrev pub Rebuilds : Kind → Image → ℕ → Link → Making → Making → (List Entry → List Entry) → List Entry → Type 0
+-- The same for the node that a link leads to, in every image that has the fresh nodes, and the
+-- others where they were.
+abbrev pub Rebuilds : Kind → Image → ℕ → Link → Making → Making → (List Entry → List Entry)
+    → List Entry → Type 0
 Rebuilds kind old level link before after change entries =
     (items : List (Item level)) → Holds kind old level link items
-    → (new : Image) → AgreeAt old new (flat_map (places level) items) → HasBlocks new before.place after.nodes.items
-    → Rebuilt kind new level entries (change (flat_map (pairs level) items)) before after (link.at.0 ∷ flat_map (places level) items)
+    → (new : Image) → AgreeAt old new (flat_map (places level) items)
+    → HasBlocks new before.place after.nodes.items
+    → Rebuilt kind new level entries (change (flat_map (pairs level) items)) before after
+    (link.at.0 ∷ flat_map (places level) items)

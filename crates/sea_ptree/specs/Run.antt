@@ -1,5 +1,6 @@
 -- Slots for some keys, and what they make of a content.
-use Rattle.std.specs.Prelude.{◌≡◌, ℕ, ◌≤◌, List, [], ◌∷◌, ◌++◌, map, filter, take, length, IsTrue, nat_le, Option, Some, None}
+use Rattle.std.specs.Prelude.{◌≡◌, ℕ, ◌≤◌, List, [], ◌∷◌, ◌++◌, map, filter, take, length, IsTrue}
+use Rattle.std.specs.Prelude.{nat_le, Option, Some, None}
 use Rattle.std.specs.Ordering.{nat_cmp}
 use Rattle.std.specs.FinMap as finmap
 use Rattle.std.specs.FinMap.Entries.{is_sorted}
@@ -40,7 +41,8 @@ pairs_from key content = from_key key (finmap.entries content)
 abbrev pub puts : List Entry → List Update
 puts pairs = map (λ e. (e.0, Some e.1)) pairs
 
--- A run takes the pairs with keys from a key on, as far as it has fewer than so many, where all rise.
+-- A run takes the pairs with keys from a key on, as far as it has fewer than so many, where all
+-- rise.
 abbrev pub TakesFrom : ℕ → ℕ → List Entry → List Update → List Update → Type 0
 TakesFrom from limit pairs old new =
     let all = old ++ puts (from_key from pairs) in

@@ -1,5 +1,6 @@
--- Trees of physical nodes in an image: which keep their rules, what they hold, and where paths lead.
-use Rattle.std.specs.Prelude.{◌≡◌, ◌⊎◌, ℕ, zero, suc, ◌<◌, ◌≤◌, List, [], ◌∷◌, ◌++◌, map, length, Some}
+-- Trees of physical nodes in an image: which keep their rules, what they hold, where paths lead.
+use Rattle.std.specs.Prelude.{◌≡◌, ◌⊎◌, ℕ, zero, suc, ◌<◌, ◌≤◌, List, [], ◌∷◌, ◌++◌, map, length}
+use Rattle.std.specs.Prelude.{Some}
 use Rattle.std.specs.List.{AllByRecursion, flat_map}
 use Rattle.std.specs.Ordering.{nat_cmp}
 use Rattle.std.specs.FinMap as finmap
@@ -18,7 +19,8 @@ abbrev pub root_link : PRoot → Link
 root_link root = record { at = root.at; sum = root.sum }
 
 -- a node of a level stands where a link leads, with the sum that the link kept
-pub record NodeAt (kind : Kind) (image : Image) (level : ℕ) (link : Link) (entries : List Entry) : Type 0 where
+pub record NodeAt (kind : Kind) (image : Image) (level : ℕ) (link : Link) (entries : List Entry)
+    : Type 0 where
   pub sum_is : HasSum (image link.at.0) link.sum.0
   pub spells : Spells kind (image link.at.0) level entries
 
@@ -43,14 +45,16 @@ pub record Has (entries : List Entry) (entry : Entry) : Type 0 where
   pub after : List Entry
   pub split : entries ≡ before ++ entry ∷ after
 
--- A path of nodes leads from a link of a level to a leaf that has the pair, each step by the last key that
--- is not above.
+-- A path of nodes leads from a link of a level to a leaf that has the pair, each step by the last
+-- key that is not above.
 abbrev pub Leads : Kind → Image → ℕ → Link → ℕ → Slot → Type 0
 Leads kind image zero link key slot =
-    (entries : List Entry) × NodeAt kind image 0 link entries × (find nat_cmp key entries ≡ Some slot)
+    (entries : List Entry) × NodeAt kind image 0 link entries
+    × (find nat_cmp key entries ≡ Some slot)
 Leads kind image (suc level) link key slot =
     (entries : List Entry) × NodeAt kind image (suc level) link entries
-    × ((entry : Entry) × Guides key entries entry × Leads kind image level (link_of entry.1) key slot)
+    × ((entry : Entry) × Guides key entries entry
+    × Leads kind image level (link_of entry.1) key slot)
 
 -- the same, from a root of a height; none leads through the empty tree
 abbrev pub LeadsFrom : Kind → Image → ℕ → Link → ℕ → Slot → Type 0
@@ -60,18 +64,20 @@ LeadsFrom kind image (suc level) link key slot = Leads kind image level link key
 abbrev pub LeadsTo : Kind → Image → PRoot → ℕ → Slot → Type 0
 LeadsTo kind image root = LeadsFrom kind image root.height (root_link root)
 
--- A link of a level is reached from another one, by nodes on the way and one of their entries at each step.
+-- A link of a level is reached from another one, by nodes on the way and one of their entries at
+-- each step.
 abbrev pub Reaches : (List Entry → Entry → Type 0) → Kind → Image → ℕ → Link → ℕ → Link → Type 0
 Reaches Step kind image zero from level link = (level ≡ 0) × (link ≡ from)
 Reaches Step kind image (suc top) from level link =
     ((level ≡ suc top) × (link ≡ from))
     ⊎ ((entries : List Entry) × NodeAt kind image (suc top) from entries
-    × ((entry : Entry) × Step entries entry × Reaches Step kind image top (link_of entry.1) level link))
+    × ((entry : Entry) × Step entries entry
+    × Reaches Step kind image top (link_of entry.1) level link))
 
 -- ---- what a tree holds
 
--- What stands below a node of a level: in a leaf its pairs, above the leaves the nodes of its children, each
--- with what stands below it.
+-- What stands below a node of a level: in a leaf its pairs, above the leaves the nodes of its
+-- children, each with what stands below it.
 abbrev pub Item : ℕ → Type 0
 Item zero = Entry
 Item (suc level) = Link × List (Item level)
@@ -93,8 +99,10 @@ least_key (entry ∷ entries) = entry.0
 -- The entry that leads to an item: above the leaves its key is the least key below it.
 abbrev pub entry_of : (level : ℕ) → Item level → Entry
 entry_of zero item = item
-entry_of (suc level) item =
-    (least_key (flat_map (pairs level) item.1), record { at = item.0.at; version = record { 0 = 0 }; sum = item.0.sum })
+entry_of (suc level) item = (
+  least_key (flat_map (pairs level) item.1),
+  record { at = item.0.at; version = record { 0 = 0 }; sum = item.0.sum },
+)
 
 -- The nodes of an item stand in an image, each with 37 entries at least.
 abbrev pub Stands : Kind → Image → (level : ℕ) → Item level → Type 0
@@ -104,7 +112,8 @@ Stands kind image (suc level) item =
     × AllByRecursion (Stands kind image level) item.1
 
 -- Items stand below the node that a link leads to, and their keys rise.
-pub record Holds (kind : Kind) (image : Image) (level : ℕ) (link : Link) (items : List (Item level)) : Type 0 where
+pub record Holds (kind : Kind) (image : Image) (level : ℕ) (link : Link) (items : List (Item level))
+    : Type 0 where
   pub node : NodeAt kind image level link (map (entry_of level) items)
   pub stand : AllByRecursion (Stands kind image level) items
   pub rising : IsRising (flat_map (pairs level) items)
@@ -118,14 +127,15 @@ abbrev pub least_of_root : ℕ → ℕ
 least_of_root zero = 1
 least_of_root (suc level) = 2
 
--- The tree below a root of a height keeps its rules; its pairs are those of a content, and its nodes stand at
--- these places.
+-- The tree below a root of a height keeps its rules; its pairs are those of a content, and its
+-- nodes stand at these places.
 abbrev pub IsTreeOf : Kind → Image → ℕ → Link → Content → List ℕ → Type 0
 IsTreeOf kind image zero link content places_of =
     (link.at.0 ≡ 0) × (link.sum.0 ≡ 0) × (finmap.entries content ≡ []) × (places_of ≡ [])
 IsTreeOf kind image (suc level) link content places_of =
-    (items : List (Item level)) × Holds kind image level link items × (least_of_root level ≤ length items)
-    × (finmap.entries content ≡ flat_map (pairs level) items) × (places_of ≡ link.at.0 ∷ flat_map (places level) items)
+    (items : List (Item level)) × Holds kind image level link items
+    × (least_of_root level ≤ length items) × (finmap.entries content ≡ flat_map (pairs level) items)
+    × (places_of ≡ link.at.0 ∷ flat_map (places level) items)
 
 abbrev pub IsTree : Kind → Image → PRoot → Content → List ℕ → Type 0
 IsTree kind image root = IsTreeOf kind image root.height (root_link root)

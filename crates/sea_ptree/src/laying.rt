@@ -2,7 +2,8 @@
 ghost use Rattle.std.specs.Prelude.{◌≡◌, ◌+◌, ◌<◌, ◌≤◌, ◌^◌, not, length, IfOk, OnOk};
 ghost use Rattle.std.specs.Ordering.{nat_cmp, eq_by_cmp};
 ghost use Rattle.std.specs.FinMap.Entries.{put, where_key};
-ghost use Rattle.sea_ptree.specs.Laying.{pairs_laid_over, pairs_updated, IsPlaceOf, RunFits, UpdateFits};
+ghost use Rattle.sea_ptree.specs.Laying.{pairs_laid_over, pairs_updated, IsPlaceOf, RunFits};
+ghost use Rattle.sea_ptree.specs.Laying.{UpdateFits};
 ghost use Rattle.sea_ptree.specs.Node.{Fits, IsRising};
 
 use sea_base::{NoMemory, Slot};

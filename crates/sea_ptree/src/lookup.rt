@@ -5,8 +5,10 @@ ghost use Rattle.std.specs.Ordering.{nat_cmp};
 ghost use Rattle.std.specs.FinMap as map;
 ghost use Rattle.std.specs.FinMap.Entries.{find};
 ghost use Rattle.sea_base.specs.declared.place.Slot.{Slot};
-ghost use Rattle.sea_ptree.specs.Faults.{Reads, IsFaultBelow, IsWhole, IsFault, IsWholeFrom, IsBlameless};
-ghost use Rattle.sea_ptree.specs.Tree.{Item, pairs, Holds, Guides, Leads, LeadsTo, Content, IsTree, root_link};
+ghost use Rattle.sea_ptree.specs.Faults.{Reads, IsFaultBelow, IsWhole, IsFault, IsWholeFrom};
+ghost use Rattle.sea_ptree.specs.Faults.{IsBlameless};
+ghost use Rattle.sea_ptree.specs.Tree.{Item, pairs, Holds, Guides, Leads, LeadsTo, Content, IsTree};
+ghost use Rattle.sea_ptree.specs.Tree.{root_link};
 
 use crate::view::View;
 use crate::{Blocks, Kind, Link, PFault};

@@ -1,5 +1,6 @@
 //! Fresh nodes, and the old ones in whose place they stand.
-ghost use Rattle.std.specs.Prelude.{◌≡◌, ◌+◌, ◌<◌, ◌≤◌, ◌^◌, ◌++◌, ◌∷◌, [], length, IfOk, OnOk, IfErr, IsTrue};
+ghost use Rattle.std.specs.Prelude.{◌≡◌, ◌+◌, ◌<◌, ◌≤◌, ◌^◌, ◌++◌, ◌∷◌, [], length, IfOk, OnOk};
+ghost use Rattle.std.specs.Prelude.{IfErr, IsTrue};
 ghost use Rattle.sea_ptree.specs.Faults.{Reads, IsNodeFault};
 ghost use Rattle.sea_ptree.specs.Tree.{NodeAt};
 
@@ -36,14 +37,11 @@ pub(crate) struct Making {
 }
 
 impl Making {
-    ghost use Rattle.sea_ptree.specs.Making.{Took, Wrote, IsMade};
+    ghost use Rattle.sea_ptree.specs.Making.{Starts, Took, Wrote, IsMade};
 
     /// Nothing made so far.
     pub fn new(alloc: Global, kind: Kind, place: Paddr) -> Making
-        ensures kind { result.kind ≡ kind }
-        ensures place { result.place ≡ place.0 }
-        ensures nodes { result.nodes.items ≡ [] }
-        ensures dead { result.dead.items ≡ [] }
+        ensures { Starts kind place.0 result }
     {
         Making {
             alloc,

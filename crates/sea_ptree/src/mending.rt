@@ -1,8 +1,10 @@
 //! A node that was changed, put among its neighbours: split, joined, or evened out.
-ghost use Rattle.std.specs.Prelude.{◌≡◌, ◌+◌, ◌<◌, ◌≤◌, ◌^◌, ◌++◌, length, IfOk, OnOk, IfErr, IsTrue};
+ghost use Rattle.std.specs.Prelude.{◌≡◌, ◌+◌, ◌<◌, ◌≤◌, ◌^◌, ◌++◌, length, IfOk, OnOk, IfErr};
+ghost use Rattle.std.specs.Prelude.{IsTrue};
 ghost use Rattle.sea_ptree.specs.Faults.{Reads};
 ghost use Rattle.sea_ptree.specs.Making.{Onward};
-ghost use Rattle.sea_ptree.specs.Mending.{Gathered, IsSettled, IsFaultNear, SettlesRoot, WroteParts, root_of};
+ghost use Rattle.sea_ptree.specs.Mending.{Gathered, IsSettled, IsFaultNear, SettlesRoot};
+ghost use Rattle.sea_ptree.specs.Mending.{WroteParts, root_of};
 
 use crate::reading::MOST_ENTRIES;
 use crate::{Blocks, Link, Making, PFault};

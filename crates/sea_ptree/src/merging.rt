@@ -3,7 +3,7 @@ ghost use Rattle.std.specs.Prelude.{◌≡◌, ◌+◌, ◌*◌, ◌≤◌, ◌^
 ghost use Rattle.sea_ptree.specs.Faults.{Reads, IsFaultBelow, IsFault, IsBlameless};
 ghost use Rattle.sea_ptree.specs.Laying.{RunFits};
 ghost use Rattle.sea_ptree.specs.Making.{Onward};
-ghost use Rattle.sea_ptree.specs.Merging.{Merges, MergesBelow, first_key};
+ghost use Rattle.sea_ptree.specs.Merging.{Merges, MergesBelow, Lays, LaysBelow, IsFewOf, first_key};
 ghost use Rattle.sea_ptree.specs.Tree.{Has};
 
 use crate::laying::lay_over;
@@ -30,8 +30,9 @@ pub fn merge<B: Blocks>(
     requires room { place.0 + 17 ≤ 2 ^ 24 }
     ensures renewed { IsTrue (B.held blocks.old).tells → IfOk result (λ fresh. Merges kind
         (B.held blocks.old).image root place.0 run.now fresh) }
-    ensures few { IfOk result (λ fresh. length fresh.nodes ≤ 17) }
-    ensures height { IfOk result (λ fresh. fresh.root.height ≤ 8) }
+    ensures lays { IsTrue (B.held blocks.old).tells → IfOk result (Lays kind
+        (B.held blocks.old).image root place.0 run.now) }
+    ensures size { IfOk result IsFewOf }
     ensures fault { IfErr result (IsFault Has kind (B.held blocks.old) (B.held blocks.new) root) }
     ensures blameless { IfErr result (IsBlameless kind (B.held blocks.old) root) }
     ensures kept { Reads (B.held blocks.old) (B.held blocks.new) result }
@@ -62,6 +63,8 @@ fn merge_below<B: Blocks>(
     ensures rebuilt { IsTrue (B.held blocks.old).tells → IfOk result (λ es.
         MergesBelow making.old.kind (B.held blocks.old).image level link run.now making.old
         making.new es.items) }
+    ensures lays { IsTrue (B.held blocks.old).tells → IfOk result (λ es. LaysBelow making.old.kind
+        (B.held blocks.old).image run.now level link making.old making.new es.items) }
     ensures fits { OnOk result (RunFits run.now) }
     ensures few { IfOk result (λ es. length es.items ≤ 209) }
     ensures onward { OnOk result (Onward making.old making.new) }

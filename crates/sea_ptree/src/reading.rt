@@ -1,5 +1,6 @@
 //! A node read in its block, by the places of its fields.
-ghost use Rattle.std.specs.Prelude.{◌≡◌, ℕ, ◌+◌, ◌*◌, ◌≤◌, ◌↔◌, List, length, slice_range, slice_get, Some, IfSome, IfNone, IsTrue};
+ghost use Rattle.std.specs.Prelude.{◌≡◌, ℕ, ◌+◌, ◌*◌, ◌≤◌, ◌↔◌, List, length, slice_range};
+ghost use Rattle.std.specs.Prelude.{slice_get, Some, IfSome, IfNone, IsTrue};
 ghost use Rattle.std.specs.List.{AllByRecursion};
 ghost use Rattle.sea_ptree.specs.Node.{Entry, Fits, MayStand, IsRising, entry_bytes, Spells};
 ghost use Rattle.sea_ptree.specs.Reading.{HasFront, AreRead};

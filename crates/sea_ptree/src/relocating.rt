@@ -1,10 +1,11 @@
 //! A node of a tree moved, with those above it.
-ghost use Rattle.std.specs.Prelude.{◌≡◌, ◌+◌, ◌-◌, ◌<◌, ◌≤◌, ◌^◌, ◌++◌, ◌∷◌, ℕ, List, take, drop, length, IfOk, OnOk, IfErr, IsTrue};
+ghost use Rattle.std.specs.Prelude.{◌≡◌, ◌+◌, ◌-◌, ◌<◌, ◌≤◌, ◌^◌, ◌++◌, ◌∷◌, ℕ, List, take, drop};
+ghost use Rattle.std.specs.Prelude.{length, IfOk, OnOk, IfErr, IsTrue};
 ghost use Rattle.sea_ptree.specs.Faults.{Reads, IsFaultBelow, IsFault, IsBlameless};
 ghost use Rattle.sea_ptree.specs.Fresh.{Renews};
 ghost use Rattle.sea_base.specs.declared.place.Paddr.{Paddr};
 ghost use Rattle.sea_ptree.specs.Making.{Onward};
-ghost use Rattle.sea_ptree.specs.Moving.{IsPathTo};
+ghost use Rattle.sea_ptree.specs.Moving.{Moves, MovesBelow, IsPathOf};
 ghost use Rattle.sea_ptree.specs.Node.{Entry};
 ghost use Rattle.sea_ptree.specs.Rebuilding.{Rebuilds};
 ghost use Rattle.sea_ptree.specs.Tree.{Has, NodeAt, root_link};
@@ -32,10 +33,9 @@ pub fn relocate<B: Blocks>(
     requires room { place.0 + 8 ≤ 2 ^ 24 }
     ensures renewed { IsTrue (B.held blocks.old).tells → IfOk result (λ fresh. Renews kind
         (B.held blocks.old).image root place.0 fresh (λ content. content)) }
-    ensures path { IsTrue (B.held blocks.old).tells → IfOk result (λ fresh. IsPathTo kind
-        (B.held blocks.old).image key level (root.height - 1) (root_link root) fresh.dead) }
-    ensures count { IfOk result (λ fresh. length fresh.nodes ≡ root.height - level) }
-    ensures height { IfOk result (λ fresh. fresh.root.height ≡ root.height) }
+    ensures moves { IsTrue (B.held blocks.old).tells → IfOk result (Moves kind
+        (B.held blocks.old).image root key level place.0) }
+    ensures size { IfOk result (IsPathOf root level) }
     ensures fault { IfErr result (IsFault Has kind (B.held blocks.old) (B.held blocks.new) root) }
     ensures blameless { IfErr result (IsBlameless kind (B.held blocks.old) root) }
     ensures kept { Reads (B.held blocks.old) (B.held blocks.new) result }
@@ -72,9 +72,9 @@ fn relocate_below<B: Blocks>(
         → length es.items ≡ length fs) }
     ensures some { IfOk result (λ es. (1 ≤ length es.items) × (length es.items ≤ 145)) }
     ensures onward { OnOk result (Onward making.old making.new) }
-    ensures path { IsTrue (B.held blocks.old).tells → OnOk result ((path : List Paddr)
-        × (making.new.dead.items ≡ making.old.dead.items ++ path)
-        × IsPathTo making.old.kind (B.held blocks.old).image key bottom level link path) }
+    ensures moves { IsTrue (B.held blocks.old).tells → IfOk result (λ es.
+        MovesBelow making.old.kind (B.held blocks.old).image key bottom level link making.old
+        making.new es.items) }
     ensures count { OnOk result (length making.new.nodes.items
         ≡ length making.old.nodes.items + (level - bottom)) }
     ensures fault { IfErr result (IsFaultBelow Has making.old.kind (B.held blocks.old)

@@ -1,5 +1,6 @@
 //! Slots for some keys.
-ghost use Rattle.std.specs.Prelude.{◌≡◌, ◌↔◌, ℕ, [], ◌∷◌, ◌++◌, IsTrue, Option, OnOk, OnErr, length};
+ghost use Rattle.std.specs.Prelude.{◌≡◌, ◌↔◌, ℕ, [], ◌∷◌, ◌++◌, IsTrue, Option, OnOk, OnErr};
+ghost use Rattle.std.specs.Prelude.{length};
 ghost use Rattle.sea_ptree.specs.Run.{IsRun, Rises};
 
 use sea_base::{Duplicate, NoMemory, Slot};

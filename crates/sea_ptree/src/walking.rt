@@ -1,9 +1,10 @@
 //! The pairs of a tree, in order.
-ghost use Rattle.std.specs.Prelude.{◌≡◌, ℕ, ◌≤◌, List, take, length, IfOk, OnOk, IfErr, IsTrue};
+ghost use Rattle.std.specs.Prelude.{◌≡◌, ℕ, ◌≤◌, List, [], take, length, IfOk, OnOk, IfErr, IsTrue};
 ghost use Rattle.std.specs.List.{flat_map};
 ghost use Rattle.sea_ptree.specs.Faults.{Reads, IsFaultBelow, IsFault, IsBlameless};
 ghost use Rattle.sea_ptree.specs.Run.{TakesFrom, puts, pairs_from};
-ghost use Rattle.sea_ptree.specs.Tree.{Item, pairs, Has, Holds, Content, IsTree};
+ghost use Rattle.sea_ptree.specs.Tree.{Item, pairs, Has, Holds, Content, IsTree, root_link};
+ghost use Rattle.sea_ptree.specs.Walking.{Walks, WalksBelow};
 
 use crate::reading::entry_at;
 use crate::view::View;
@@ -26,6 +27,8 @@ pub fn walk<B: Blocks>(
         (content : Content) (places : List ℕ)
         → IsTree kind (B.held blocks.old).image root content places → run
         ≡ puts (take limit (pairs_from from content))) }
+    ensures walks { IsTrue (B.held blocks.old).tells → IfOk result (Walks kind
+        (B.held blocks.old).image from limit root.height (root_link root) []) }
     ensures fault { IfErr result (IsFault Has kind (B.held blocks.old) (B.held blocks.new) root) }
     ensures blameless { IfErr result (IsBlameless kind (B.held blocks.old) root) }
     ensures kept { Reads (B.held blocks.old) (B.held blocks.new) result }
@@ -63,6 +66,8 @@ fn walk_below<B: Blocks>(
     ensures taken { IsTrue (B.held blocks.old).tells → OnOk result ((items : List (Item level))
         → Holds kind (B.held blocks.old).image level link items
         → TakesFrom from limit (flat_map (pairs level) items) run.old run.new) }
+    ensures walks { IsTrue (B.held blocks.old).tells → OnOk result (WalksBelow kind
+        (B.held blocks.old).image from limit level link run.old run.new) }
     ensures fault { IfErr result (IsFaultBelow Has kind (B.held blocks.old)
         (B.held blocks.new) level link) }
     ensures kept { Reads (B.held blocks.old) (B.held blocks.new) result }

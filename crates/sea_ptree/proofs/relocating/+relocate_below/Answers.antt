@@ -1,16 +1,17 @@
-use Rattle.std.proofs.Common.{◌+◌, ◌-◌, ◌<◌, ◌++◌, [], ◌∷◌, List, length, take, drop, sym, ap, subst, ◌∙◌, arith}
+use Rattle.std.proofs.Common.{◌+◌, ◌-◌, ◌<◌, ◌++◌, [], ◌∷◌, List, length, set, take, drop, sym, ap, subst, ◌∙◌, arith}
 use Rattle.std.proofs.lemmas.List.{length-set}
 use Rattle.std.proofs.lemmas.Result.{err_from_is_err_and}
 use Rattle.sea_ptree.specs.declared.making.Making.{Making}
 use Rattle.sea_ptree.specs.Making.{Wrote}
 use Rattle.sea_ptree.specs.Merging.{Towards}
+use Rattle.sea_ptree.specs.Moving.{MovesBelow}
 use Rattle.sea_ptree.specs.Node.{Entry}
 use Rattle.sea_ptree.specs.View.{Parts}
 use Rattle.sea_ptree.specs.Rebuilding.{Rebuilds}
 use Rattle.sea_ptree.specs.Tree.{Has}
 use Rattle.sea_ptree.proofs.Checks.{Next}
 use Rattle.sea_ptree.proofs.Guiding.{one_node}
-use Rattle.sea_ptree.proofs.Moves.{path_end, path_up, dead_up}
+use Rattle.sea_ptree.proofs.Moves.{moves_end, moves_up}
 use Rattle.sea_ptree.proofs.Reaching.{fault_here, want_here}
 use Rattle.sea_ptree.proofs.Relocations.{fault_up, next_there, step_up, taken_up, put_at}
 use Rattle.sea_ptree.proofs.Walks.{next_has}
@@ -66,8 +67,9 @@ returns-clause-same g t c told fs node =
       | else-level-bottom w ↦ (λ i. length (w.entries-is i).items) ∙ same
     ]
 
-pub returns-clause-path : goal.returns-clause-path
-returns-clause-path g t c told =
+pub returns-clause-moves : goal.returns-clause-moves
+returns-clause-moves g t c told =
+    let image = (g.B.Blocks.held c.args.blocks.now).image in
     elim c.if-level-bottom.branch [
       | then-level-bottom+in_ok-below+in_ok-entries-2 w ↦ (
           let lt : w.index_towards-index.result < length c.in_ok-entries.entries.items = omega (arith, w.index_towards-index.ensures.within, ap length w.deref.ensures.value) in
@@ -78,16 +80,14 @@ returns-clause-path g t c told =
             index_is = at.1;
             parts = subst (λ (xs : List Entry). Parts c.args.key xs at.0) w.deref.ensures.value at.2;
           } in
-          let below = w.in_ok-below.ensures.path (c.in_ok-entries.ensures.kept.0.tells ∙ told) in (
-            c.args.link.at ∷ below.0,
-            (λ i. (w.making-is i).dead.items) ∙ dead_up c.args.making.now c.take.new.self w.relocate_below.new.making w.write.new.self c.args.link.at (c.args.level - 1) _ w.in_ok-entries-2.field-0 below.0 c.in_ok-entries.ensures.took below.1 w.in_ok-entries-2.ensures,
-            path_up c.args.making.now.kind c.take.new.self.kind (g.B.Blocks.held c.args.blocks.now) (g.B.Blocks.held c.take.new.blocks) c.args.key c.args.bottom c.args.level (c.args.level - 1) c.args.link w.of-child.result c.in_ok-entries.entries.items w.index_towards-index.result w.index.result.now below.0
-                c.in_ok-entries.ensures.took.kind (omega (arith, w.if-level-bottom.true)) w.if-level-bottom.true c.in_ok-entries.ensures.kept w.of-child.ensures (c.in_ok-entries.ensures.node told) next toward below.2,
+          let m = moves_up (g.B.Blocks.held c.args.blocks.now) (g.B.Blocks.held c.take.new.blocks) c.args.key c.args.bottom c.args.level (c.args.level - 1) c.args.link w.of-child.result c.in_ok-entries.entries.items w.in_ok-below.below.items w.index_towards-index.result w.index.result.now w.in_ok-entries-2.field-0 c.args.making.now c.take.new.self w.relocate_below.new.making w.write.new.self
+          (omega (arith, w.if-level-bottom.true)) w.if-level-bottom.true c.in_ok-entries.ensures.kept w.of-child.ensures (c.in_ok-entries.ensures.node told) next toward c.in_ok-entries.ensures.took (w.in_ok-below.ensures.moves (c.in_ok-entries.ensures.kept.0.tells ∙ told))
+          (subst (λ (xs : List Entry). Wrote w.relocate_below.new.making w.write.new.self (c.args.level - 1) xs w.in_ok-entries-2.field-0) w.deref-then-level-bottom.ensures.value w.in_ok-entries-2.ensures) in
+          subst (λ (xs : List Entry). MovesBelow c.args.making.now.kind image c.args.key c.args.bottom c.args.level c.args.link c.args.making.now c.if-level-bottom.making xs) (λ i. (sym w.entries-is i).items)
+          (subst (λ (n : Making). MovesBelow c.args.making.now.kind image c.args.key c.args.bottom c.args.level c.args.link c.args.making.now n (set c.in_ok-entries.entries.items w.index_towards-index.result w.in_ok-entries-2.field-0)) (sym w.making-is) m)
           )
-          )
-      | else-level-bottom w ↦ (
-        c.args.link.at ∷ [],
-        (λ i. (w.making-is i).dead.items) ∙ c.in_ok-entries.ensures.took.dead,
-        path_end c.args.making.now.kind (g.B.Blocks.held c.args.blocks.now).image c.args.key c.args.bottom c.args.level c.args.link w.if-level-bottom.false,
-      )
+      | else-level-bottom w ↦
+          subst (λ (xs : List Entry). MovesBelow c.args.making.now.kind image c.args.key c.args.bottom c.args.level c.args.link c.args.making.now c.if-level-bottom.making xs) (λ i. (sym w.entries-is i).items)
+          (subst (λ (n : Making). MovesBelow c.args.making.now.kind image c.args.key c.args.bottom c.args.level c.args.link c.args.making.now n c.in_ok-entries.entries.items) (sym w.making-is)
+          (moves_end c.args.making.now.kind image c.args.key c.args.bottom c.args.level c.args.link c.args.making.now c.take.new.self c.in_ok-entries.entries.items w.if-level-bottom.false (c.in_ok-entries.ensures.node told) c.in_ok-entries.ensures.took))
     ]

@@ -7,10 +7,10 @@ use Rattle.sea_ptree.specs.Faults.{IsFaultBelow, IsFaultFrom}
 use Rattle.sea_base.specs.declared.place.Paddr.{Paddr}
 use Rattle.sea_ptree.specs.declared.link.Link.{Link}
 use Rattle.sea_ptree.specs.Making.{Wrote}
-use Rattle.sea_ptree.specs.Moving.{IsPathTo}
 use Rattle.sea_ptree.specs.Node.{Entry}
 use Rattle.sea_ptree.specs.Tree.{Has, root_link}
 use Rattle.sea_ptree.proofs.Relocations.{relocated}
+use Rattle.sea_ptree.proofs.Moves.{moves_root}
 use Rattle.sea_ptree.proofs.Reaching.{want_here}
 use Rattle.sea_ptree.proofs.Steps.{root_blameless}
 use Rattle.sea_ptree.proofs.relocating.relocate.Goals as goal
@@ -19,7 +19,7 @@ pub returns-in_err-entries-clause-blameless : goal.returns-in_err-entries-clause
 returns-in_err-entries-clause-blameless g c =
     let p = err_from_is_err_and c.from_residual.result c.from_residual.ensures.1 in
     rw (p.1, p.2) (root_blameless Has (λ es e has. has) c.args.kind (g.B.Blocks.held c.args.blocks.now) (g.B.Blocks.held c.relocate_below.new.blocks) c.args.root (c.args.root.height - 1) c.root-link.result c.in_err-entries.field-0.0 (omega (arith, c.requires.level)) c.root-link.ensures
-    (subst (λ (k : Kind). IsFaultBelow Has k (g.B.Blocks.held c.args.blocks.now) (g.B.Blocks.held c.relocate_below.new.blocks) (c.args.root.height - 1) c.root-link.result c.in_err-entries.field-0.0) c.new-making.ensures.kind c.in_err-entries.ensures.fault))
+    (subst (λ (k : Kind). IsFaultBelow Has k (g.B.Blocks.held c.args.blocks.now) (g.B.Blocks.held c.relocate_below.new.blocks) (c.args.root.height - 1) c.root-link.result c.in_err-entries.field-0.0) c.new-making.ensures.kind_is c.in_err-entries.ensures.fault))
 
 pub returns-in_err-slot-clause-fault : goal.returns-in_err-slot-clause-fault
 returns-in_err-slot-clause-fault g c =
@@ -31,13 +31,11 @@ returns-in_err-slot-clause-fault g c =
 pub returns-clause-renewed : goal.returns-clause-renewed
 returns-clause-renewed g c told =
     relocated c.args.kind c.new-making.result.kind (g.B.Blocks.held c.args.blocks.now).image c.args.root.height (c.args.root.height - 1) c.args.place.0 c.args.root c.root-link.result c.in_ok-entries.entries.items (c.in_ok-slot.field-0-0, c.in_ok-slot.slot) c.done.result c.new-making.result c.relocate_below.new.making c.write.new.self
-    (omega (arith, c.requires.level)) (omega (arith, c.requires.height)) c.new-making.ensures.kind c.new-making.ensures.place c.new-making.ensures.nodes c.new-making.ensures.dead c.root-link.ensures
-    (c.in_ok-entries.ensures.rebuilt told) (c.in_ok-entries.ensures.same told) c.in_ok-entries.ensures.onward (subst (λ (xs : List Entry). Wrote c.relocate_below.new.making c.write.new.self (c.args.root.height - 1) xs (c.in_ok-slot.field-0-0, c.in_ok-slot.slot)) c.deref.ensures.value c.in_ok-slot.ensures) c.done.ensures c.new-making.ensures.kind
+    (omega (arith, c.requires.level)) (omega (arith, c.requires.height)) c.new-making.ensures.kind_is c.new-making.ensures.place_is c.new-making.ensures.nodes c.new-making.ensures.dead c.root-link.ensures
+    (c.in_ok-entries.ensures.rebuilt told) (c.in_ok-entries.ensures.same told) c.in_ok-entries.ensures.onward (subst (λ (xs : List Entry). Wrote c.relocate_below.new.making c.write.new.self (c.args.root.height - 1) xs (c.in_ok-slot.field-0-0, c.in_ok-slot.slot)) c.deref.ensures.value c.in_ok-slot.ensures) c.done.ensures c.new-making.ensures.kind_is
 
-pub returns-clause-path : goal.returns-clause-path
-returns-clause-path g c told =
-    let below = c.in_ok-entries.ensures.path told in
-    let dead : c.done.result.dead ≡ below.0 = c.done.ensures.dead ∙ c.in_ok-slot.ensures.dead ∙ below.1 ∙ ap (λ (ds : List Paddr). ds ++ below.0) c.new-making.ensures.dead in
-    subst (IsPathTo c.args.kind (g.B.Blocks.held c.args.blocks.now).image c.args.key c.args.level (c.args.root.height - 1) (root_link c.args.root)) (sym dead)
-    (subst (λ (l : Link). IsPathTo c.args.kind (g.B.Blocks.held c.args.blocks.now).image c.args.key c.args.level (c.args.root.height - 1) l below.0) c.root-link.ensures
-    (subst (λ (k : Kind). IsPathTo k (g.B.Blocks.held c.args.blocks.now).image c.args.key c.args.level (c.args.root.height - 1) c.root-link.result below.0) c.new-making.ensures.kind below.2))
+pub returns-clause-moves : goal.returns-clause-moves
+returns-clause-moves g c told =
+    moves_root c.args.kind (g.B.Blocks.held c.args.blocks.now).image c.args.root c.root-link.result c.args.key c.args.level c.args.place.0 c.in_ok-entries.entries.items (c.in_ok-slot.field-0-0, c.in_ok-slot.slot) c.done.result c.new-making.result c.relocate_below.new.making c.write.new.self
+    c.root-link.ensures c.new-making.ensures (c.in_ok-entries.ensures.moves told)
+    (subst (λ (xs : List Entry). Wrote c.relocate_below.new.making c.write.new.self (c.args.root.height - 1) xs (c.in_ok-slot.field-0-0, c.in_ok-slot.slot)) c.deref.ensures.value c.in_ok-slot.ensures) c.done.ensures

@@ -1,10 +1,11 @@
-use Rattle.std.proofs.Common.{◌<◌, ◌+◌, ◌-◌, ℕ, length-append, [], ◌∷◌, Some, length, sym, subst, ap, ◌∙◌, arith}
+use Rattle.std.proofs.Common.{◌<◌, ◌+◌, ◌-◌, ℕ, length-append, [], ◌∷◌, ◌++◌, Some, length, refl, sym, subst, ap, ◌∙◌, arith, inl, inr}
 use Rattle.std.proofs.lemmas.Bool.{false≢true}
 use Rattle.std.proofs.lemmas.Result.{err_from_is_err_and}
 use Rattle.sea_ptree.specs.Blocks.{Keeps}
 use Rattle.sea_ptree.specs.Tree.{Has}
 use Rattle.sea_ptree.proofs.Reaching.{fault_here, fault_step, want_here, keeps_on}
 use Rattle.sea_ptree.proofs.Searches.{view_next}
+use Rattle.sea_ptree.proofs.Visits.{ReadTo, read_none, read_more, read_full, read_all, takes_at, walks_on}
 use Rattle.sea_ptree.proofs.Walks.{WalkedTo, next_has, walked_none, walked_full, walked_all, walked_step, walked_leaf, walked_by}
 use Rattle.sea_ptree.proofs.walking.+walk_below.Goals as goal
 use Rattle.sea_ptree.proofs.walking.+walk_below.Goals.{then-level-gt0+in_ok-walk_below, else-level-gt0+then-key-from+then-is_below+in_ok-push, else-level-gt0+else-key-from, else-key-from-via-then-key-from+else-is_below, else-key-from-via-else-key-from}
@@ -21,6 +22,7 @@ loop-index-init g t c =
       few = c.requires.few;
       walked = λ told. subst (λ (i : ℕ). WalkedTo c.args.kind (g.B.Blocks.held c.args.blocks.now).image c.args.link c.args.from c.args.limit c.args.run.now c.args.level i c.args.run.now) (sym c.saturating_sub-start.ensures)
           (walked_none c.args.kind (g.B.Blocks.held c.args.blocks.now).image c.args.link c.args.from c.args.limit c.args.run.now c.args.level c.count_upto.result n.0 (n.2 told) c.requires.few (c.count_upto.ensures.split c.args.kind c.args.level n.0 n.1));
+      reads = λ told. read_none c.args.kind (g.B.Blocks.held c.args.blocks.now).image c.args.link c.args.from c.args.limit c.args.level c.saturating_sub-start.result c.args.run.now;
       kept = c.in_ok-view.ensures.kept.0;
       counted = c.in_ok-view.ensures.kept.1;
     }
@@ -31,6 +33,12 @@ returns-then-items-limit-clause-few g t c = c.loop-index.invariant.few
 pub returns-then-items-limit-clause-taken : goal.returns-then-items-limit-clause-taken
 returns-then-items-limit-clause-taken g t c told =
     walked_full c.args.kind (g.B.Blocks.held c.args.blocks.now).image c.args.link c.args.from c.args.limit c.args.run.now c.args.level c.loop-index.index c.loop-index.run (omega (arith, c.if-items-limit.true, ap length c.items.ensures.items)) (c.loop-index.invariant.walked told)
+
+pub returns-then-items-limit-clause-walks : goal.returns-then-items-limit-clause-walks
+returns-then-items-limit-clause-walks g t c told =
+    let n = c.in_ok-view.ensures.node in
+    read_full c.args.kind (g.B.Blocks.held c.args.blocks.now).image c.args.link c.args.from c.args.limit c.args.level c.count_upto.result c.saturating_sub-start.result c.loop-index.index n.0 c.args.run.now c.loop-index.run (n.2 told) (c.count_upto.ensures.split c.args.kind c.args.level n.0 n.1) c.saturating_sub-start.ensures
+    (omega (arith, c.if-items-limit.true, ap length c.items.ensures.items)) (c.loop-index.invariant.reads told)
 
 pub returns-then-items-limit-clause-kept : goal.returns-then-items-limit-clause-kept
 returns-then-items-limit-clause-kept g t c = (c.loop-index.invariant.kept, c.loop-index.invariant.counted)
@@ -47,6 +55,12 @@ pub returns-clause-taken : goal.returns-clause-taken
 returns-clause-taken g t c told =
     let n = c.in_ok-view.ensures.node in
     walked_all c.args.kind (g.B.Blocks.held c.args.blocks.now).image c.args.link c.args.from c.args.limit c.args.run.now c.args.level c.loop-index.index c.loop-index.run n.0 (n.2 told) (omega (arith, c.loop-index-test.false, n.1.count)) (c.loop-index.invariant.walked told)
+
+pub returns-clause-walks : goal.returns-clause-walks
+returns-clause-walks g t c told =
+    let n = c.in_ok-view.ensures.node in
+    read_all c.args.kind (g.B.Blocks.held c.args.blocks.now).image c.args.link c.args.from c.args.limit c.args.level c.count_upto.result c.saturating_sub-start.result c.loop-index.index n.0 c.args.run.now c.loop-index.run (n.2 told) (c.count_upto.ensures.split c.args.kind c.args.level n.0 n.1) c.saturating_sub-start.ensures
+    (omega (arith, c.loop-index-test.false, n.1.count)) (c.loop-index.invariant.reads told)
 
 pub returns-clause-kept : goal.returns-clause-kept
 returns-clause-kept g t c = (c.loop-index.invariant.kept, c.loop-index.invariant.counted)
@@ -86,6 +100,9 @@ loop-index-preserved g t c =
         walked = λ told. subst (WalkedTo c.args.kind old.image c.args.link c.args.from c.args.limit c.args.run.now c.args.level (c.loop-index.index + 1)) (sym w.run-is)
             (walked_step c.args.kind old mid c.args.level (c.args.level - 1) c.args.link w.of.result c.args.from c.args.limit c.args.run.now c.loop-index.index c.loop-index.run w.walk_below.new.run n.0 c.entry_at-key.result before.kept (omega (arith, w.if-level-gt0.true)) w.of.ensures (n.2 told) lt next few (before.walked told)
             (w.in_ok-walk_below.ensures.taken (before.kept.tells ∙ told)));
+        reads = λ told. subst (ReadTo c.args.kind old.image c.args.link c.args.from c.args.limit c.args.level c.saturating_sub-start.result (c.loop-index.index + 1) c.args.run.now) (sym w.run-is)
+            (read_more c.args.kind old.image c.args.link c.args.from c.args.limit c.args.level c.saturating_sub-start.result c.loop-index.index n.0 c.entry_at-key.result c.args.run.now c.loop-index.run w.walk_below.new.run (n.2 told) next c.loop-index.auto.index lt few (before.reads told)
+            (walks_on c.args.kind old mid c.args.from c.args.limit c.args.level (c.args.level - 1) w.of.result c.entry_at-key.result c.loop-index.run w.walk_below.new.run before.kept (omega (arith, w.if-level-gt0.true)) w.of.ensures (w.in_ok-walk_below.ensures.walks (before.kept.tells ∙ told))));
         kept = subst (λ b. Keeps old (g.B.Blocks.held b)) (sym w.blocks-is) (keeps_on old mid (g.B.Blocks.held w.walk_below.new.blocks) before.kept w.in_ok-walk_below.ensures.kept.0);
         counted = ap (λ b. (g.B.Blocks.held b).faults) w.blocks-is ∙ w.in_ok-walk_below.ensures.kept.1 ∙ before.counted;
       }
@@ -93,6 +110,9 @@ loop-index-preserved g t c =
         few = omega (arith, ap length w.run-is, ap length w.in_ok-push.ensures.ok, length-append c.loop-index.run ((e.0, Some e.1) ∷ []));
         walked = λ told. subst (WalkedTo c.args.kind old.image c.args.link c.args.from c.args.limit c.args.run.now c.args.level (c.loop-index.index + 1)) (sym (w.run-is ∙ w.in_ok-push.ensures.ok))
             (walked_leaf c.args.kind old.image c.args.link c.args.from c.args.limit c.args.run.now c.args.level c.loop-index.index c.loop-index.run n.0 c.entry_at-key.result (omega (arith, w.if-level-gt0.false)) (n.2 told) lt next few (before.walked told) w.if-key-from.true);
+        reads = λ told. subst (ReadTo c.args.kind old.image c.args.link c.args.from c.args.limit c.args.level c.saturating_sub-start.result (c.loop-index.index + 1) c.args.run.now) (sym (w.run-is ∙ w.in_ok-push.ensures.ok))
+            (read_more c.args.kind old.image c.args.link c.args.from c.args.limit c.args.level c.saturating_sub-start.result c.loop-index.index n.0 c.entry_at-key.result c.args.run.now c.loop-index.run (c.loop-index.run ++ (e.0, Some e.1) ∷ []) (n.2 told) next c.loop-index.auto.index lt few (before.reads told)
+            (takes_at c.args.kind old.image c.args.from c.args.limit c.args.level c.entry_at-key.result c.loop-index.run (c.loop-index.run ++ (e.0, Some e.1) ∷ []) (omega (arith, w.if-level-gt0.false)) (inl (w.if-key-from.true, (w.is_below.ensures (Some e.1)).0 w.if-is_below.true, refl))));
         kept = subst (λ b. Keeps old (g.B.Blocks.held b)) (sym w.blocks-is) before.kept;
         counted = ap (λ b. (g.B.Blocks.held b).faults) w.blocks-is ∙ before.counted;
       }
@@ -103,6 +123,15 @@ loop-index-preserved g t c =
               | else-key-from-via-then-key-from+else-is_below w' ↦ false≢true (sym w'.if-is_below.false ∙ (w'.is_below.ensures (Some e.1)).1 rises)
               | else-key-from-via-else-key-from w' ↦ omega (arith, w'.if-key-from.false)
             ]));
+        reads = λ told. subst (ReadTo c.args.kind old.image c.args.link c.args.from c.args.limit c.args.level c.saturating_sub-start.result (c.loop-index.index + 1) c.args.run.now) (sym w.run-is)
+            (read_more c.args.kind old.image c.args.link c.args.from c.args.limit c.args.level c.saturating_sub-start.result c.loop-index.index n.0 c.entry_at-key.result c.args.run.now c.loop-index.run c.loop-index.run (n.2 told) next c.loop-index.auto.index lt few (before.reads told)
+            (takes_at c.args.kind old.image c.args.from c.args.limit c.args.level c.entry_at-key.result c.loop-index.run c.loop-index.run (omega (arith, w.if-level-gt0.false)) (inr (
+              λ le rises. elim w.else-key-from.branch [
+                | else-key-from-via-then-key-from+else-is_below w' ↦ false≢true (sym w'.if-is_below.false ∙ (w'.is_below.ensures (Some e.1)).1 rises)
+                | else-key-from-via-else-key-from w' ↦ omega (arith, w'.if-key-from.false)
+              ],
+              refl,
+            ))));
         kept = subst (λ b. Keeps old (g.B.Blocks.held b)) (sym w.blocks-is) before.kept;
         counted = ap (λ b. (g.B.Blocks.held b).faults) w.blocks-is ∙ before.counted;
       }

@@ -8,6 +8,7 @@ use Rattle.sea_ptree.specs.Tree.{NodeAt}
 use Rattle.sea_ptree.proofs.Relocations.{next_there}
 use Rattle.sea_ptree.proofs.Walks.{next_has}
 use Rattle.sea_ptree.proofs.making.Making.gather.Goals as goal
+use Rattle.sea_ptree.proofs.making.Making.gather.Goals.{else-len-lt-LEAST_ENTRIES-via-then-len-lt-LEAST_ENTRIES+else-index-entries, else-len-lt-LEAST_ENTRIES-via-else-len-lt-LEAST_ENTRIES}
 
 abbrev d : Entry
 d = (0, record { at = record { 0 = 0 }; version = record { 0 = 0 }; sum = record { 0 = 0 } })
@@ -48,6 +49,11 @@ returns-then-index-gt0-clause-gathered g c told =
     inr (inr (record {
       previous = get_or c.args.entries.now (c.args.index - 1) d;
       beside = c.in_ok-left.left.items;
+      few = omega arith;
+      last = elim c.else-len-lt-LEAST_ENTRIES.branch [
+        | else-len-lt-LEAST_ENTRIES-via-then-len-lt-LEAST_ENTRIES+else-index-entries w ↦ omega (arith, w.if-index-entries.false, c.requires.index)
+        | else-len-lt-LEAST_ENTRIES-via-else-len-lt-LEAST_ENTRIES w ↦ absurd (omega (arith, w.if-len-lt-LEAST_ENTRIES.false, c.if-len-lt-LEAST_ENTRIES-2.true))
+      ];
       from_is = omega (arith, c.if-index-gt0.true);
       to_is = refl;
       there = (next_there c.args.entries.now (c.args.index - 1) d lt).rest;
