@@ -28,10 +28,44 @@ fn a_place_that_fails_is_answered(rt: HostRuntime) -> Result<(), TrialFault> {
     let fault = TrialFault::Tree(PFault::Space(SpaceFault::DeviceFault));
     assert!(rt; tree.get(7) == Err(fault));
     assert!(rt; tree.relocate(7, 0).err() == Some(fault));
+    assert!(rt; tree.walk(7).err() == Some(fault));
     let run = Run::new(rt.alloc());
     assert!(rt; tree.merge(&run).err() == Some(fault));
-    assert!(rt; tree.blocks.faults() == 3);
+    assert!(rt; tree.blocks.faults() == 4);
     assert!(rt; tree.root() == root);
+    Ok(())
+}
+
+#[test]
+fn a_leaf_that_fails_is_answered(rt: HostRuntime) -> Result<(), TrialFault> {
+    let alloc = rt.alloc();
+    let mut tree = three_leaves(alloc)?;
+    let old = read_tree(alloc, &mut tree)?;
+    let root = tree.root();
+    // places stand parents first, so the second and the third are those of the first two leaves
+    let (Some(first), Some(second)) = (old.places.get(1), old.places.get(2)) else {
+        return Err(TrialFault::NoLevel);
+    };
+    let mut run = Run::new(alloc);
+    for key in 0..60 {
+        push(&mut run, key, None)?;
+    }
+    let fault = TrialFault::Tree(PFault::Space(SpaceFault::DeviceFault));
+    tree.blocks.fail_at(Paddr(*first));
+    assert!(rt; tree.get(7) == Err(fault));
+    assert!(rt; tree.walk(0).err() == Some(fault));
+    assert!(rt; tree.merge(&run).err() == Some(fault));
+    assert!(rt; tree.relocate(7, 0).err() == Some(fault));
+    assert!(rt; tree.blocks.faults() == 4);
+    // the leaf beside is read where a leaf has too few entries left, and by a walk
+    tree.blocks.fail_at(Paddr(*second));
+    assert!(rt; tree.get(7)? == Some(slot_of(7)));
+    assert!(rt; tree.walk(0)?.items().len() == 64);
+    assert!(rt; tree.walk(70).err() == Some(fault));
+    assert!(rt; tree.merge(&run).err() == Some(fault));
+    assert!(rt; tree.merge(&Run::new(alloc))?.fresh == 2);
+    assert!(rt; tree.blocks.faults() == 6);
+    assert!(rt; tree.root() != root);
     Ok(())
 }
 
@@ -50,7 +84,7 @@ fn a_run_without_keys_writes_the_first_leaf(rt: HostRuntime) -> Result<(), Trial
     Ok(())
 }
 
-// The bytes of a leaf of two pairs, in which one byte is another.
+// The bytes of a leaf of two pairs, the keys 1 and 2, in which one byte is another.
 fn broken(alloc: Global, at: usize, byte: u8) -> Result<Block, TrialFault> {
     let mut bytes = [0; 4096];
     bytes[0] = b'S';
@@ -86,7 +120,7 @@ fn a_broken_node_is_none(rt: HostRuntime) -> Result<(), TrialFault> {
         let block = broken(alloc, at, byte)?;
         assert!(rt; Node::parse(alloc, Kind::Mapping, &block)?.is_none());
     }
-    // a leaf is no node of the level above, and a version stands in none of these
+    // a leaf is no node of the level above, and another sum is none of its own
     let sum = sum_of(&whole);
     let mut tree = MapTree::new(alloc);
     tree.blocks.lay(whole)?;
@@ -105,5 +139,77 @@ fn a_broken_node_is_none(rt: HostRuntime) -> Result<(), TrialFault> {
         ..leaf
     };
     assert!(rt; get(&mut tree.blocks, Kind::Mapping, other, 1).is_err());
+    Ok(())
+}
+
+// The same with the word of the owners, or one level up, and one byte more that is another.
+fn broken_twice(
+    alloc: Global,
+    word: &[u8],
+    level: u8,
+    at: usize,
+    byte: u8,
+) -> Result<Block, TrialFault> {
+    let leaf = broken(alloc, 4, level)?;
+    let mut bytes = Vec::from_slice(alloc, word)?;
+    bytes.extend_from_slice(&leaf.bytes()[4..])?;
+    if let Some(place) = bytes.get_mut(at) {
+        *place = byte;
+    }
+    if bytes.len() != 4096 {
+        return Err(TrialFault::NoLevel);
+    }
+    Ok(Block::from_vec(bytes)?)
+}
+
+#[test]
+fn what_the_fields_of_a_node_may_hold(rt: HostRuntime) -> Result<(), TrialFault> {
+    let alloc = rt.alloc();
+    // the first entry has its key at byte 32, its place at 40, its version at 44, its sum at 52
+    for (kind, word, level, at, is_node) in [
+        (Kind::Mapping, b"SLBA", 0, 43, true),
+        (Kind::Mapping, b"SLBA", 0, 51, true),
+        (Kind::Mapping, b"SLBA", 0, 59, true),
+        (Kind::Mapping, b"SLBA", 1, 43, true),
+        (Kind::Mapping, b"SLBA", 1, 51, false),
+        (Kind::Mapping, b"SLBA", 1, 59, true),
+        (Kind::Owners, b"SOWN", 0, 43, false),
+        (Kind::Owners, b"SOWN", 0, 51, true),
+        (Kind::Owners, b"SOWN", 0, 59, false),
+        (Kind::Owners, b"SOWN", 1, 51, false),
+        (Kind::Owners, b"SOWN", 7, 43, true),
+        (Kind::Mapping, b"SLBA", 0, 32, false),
+        (Kind::Mapping, b"SLBA", 0, 6, false),
+        (Kind::Mapping, b"SOWN", 0, 43, false),
+        (Kind::Owners, b"SLBA", 0, 51, false),
+    ] {
+        let block = broken_twice(alloc, word, level, at, 1)?;
+        assert!(rt; Node::parse(alloc, kind, &block)?.is_some() == is_node);
+    }
+    Ok(())
+}
+
+#[test]
+fn a_node_has_145_entries_at_most(rt: HostRuntime) -> Result<(), TrialFault> {
+    let alloc = rt.alloc();
+    for (count, is_node) in [(144, true), (145, true), (146, false)] {
+        let mut bytes = Vec::from_slice(alloc, b"SLBA\0\0\0")?;
+        bytes.push(count)?;
+        bytes.resize(32, 0)?;
+        for key in 0..count {
+            bytes.extend_from_slice(&[0, 0, 0, 0, 0, 0, 0, key])?;
+            let end = bytes.len().saturating_add(20);
+            bytes.resize(end, 7)?;
+        }
+        if is_node {
+            bytes.resize(4096, 0)?;
+        }
+        bytes.truncate(4096);
+        if bytes.len() != 4096 {
+            return Err(TrialFault::NoLevel);
+        }
+        let block = Block::from_vec(bytes)?;
+        assert!(rt; Node::parse(alloc, Kind::Mapping, &block)?.is_some() == is_node);
+    }
     Ok(())
 }

@@ -83,3 +83,20 @@ fn read_node(
     }
     Ok(())
 }
+
+// The entries of the first leaf, if the tree has one.
+pub fn first_leaf(alloc: Global, tree: &mut MapTree) -> Result<Vec<(u64, Slot)>, TrialFault> {
+    let root = tree.root();
+    let mut entries = Vec::new(alloc);
+    let mut at = root.at;
+    let mut sum = root.sum;
+    for _ in 0..root.height {
+        let block = tree.blocks.block(at, sum).map_err(|_| TrialFault::Runtime)?;
+        let node = Node::parse(alloc, Kind::Mapping, &block)?.ok_or(TrialFault::NoLevel)?;
+        entries = node.entries.into_vec();
+        let first = entries.first().ok_or(TrialFault::NoLevel)?;
+        at = first.1.at;
+        sum = first.1.sum;
+    }
+    Ok(entries)
+}
