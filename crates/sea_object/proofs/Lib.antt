@@ -1,10 +1,12 @@
 pub mod Contents
 pub mod Copies
 pub mod Listing
+pub mod Logs
 pub mod Lookups
 pub mod Order
 pub mod Results
 pub mod Scans
 pub mod Shown
+pub mod ShownObjects
 pub mod Sorts
 pub mod Writes

@@ -6,8 +6,8 @@ use Rattle.sea_object.specs.declared.op.Op.TheVariants.{Touch, Write, Zero, Trun
 use Rattle.sea_object.specs.declared.op.Kind.{Kind}
 use Rattle.sea_object.specs.declared.op.Kind.TheVariants.{Makes, Puts, Takes, Asks}
 use Rattle.sea_object.specs.declared.reply.Why.TheVariants.{NoObject}
-use Rattle.sea_object.specs.Objects.{ObjectValue}
-use Rattle.sea_object.specs.Answer.{overfills, refusal_at}
+use Rattle.sea_object.specs.Objects.{ObjectValue, empty_object}
+use Rattle.sea_object.specs.Answer.{changed, object_after, overfills, refusal_at}
 use Rattle.sea_object.specs.Op.{kind, kind_changes, kind_makes, kind_needs, changes, makes, needs_object, name_of}
 
 abbrev puts : Kind → Bool
@@ -77,3 +77,25 @@ named (GetAttrs name) h = refl
 named (OmapGet name key) h = refl
 named (OmapList name limit after) h = refl
 named (ListNames limit after) h = absurd (false≢true h)
+
+-- an operation that makes its object makes it of an empty one
+pub made_after : (op : Op) → kind op ≡ Makes → object_after op None ≡ Some (changed op empty_object)
+made_after (Touch name) is = refl
+made_after (Write name offset bytes) is = refl
+made_after (Zero name offset count) is = refl
+made_after (Truncate name size) is = absurd (false≢true (ap kind_makes is))
+made_after (Remove name) is = absurd (false≢true (ap kind_makes is))
+made_after (SetAttr name key value) is = absurd (false≢true (ap kind_makes is))
+made_after (RmAttr name key) is = absurd (false≢true (ap kind_makes is))
+made_after (RmAttrs name) is = absurd (false≢true (ap kind_makes is))
+made_after (OmapSetKeys name pairs) is = absurd (false≢true (ap kind_makes is))
+made_after (OmapRmKeys name keys) is = absurd (false≢true (ap kind_makes is))
+made_after (OmapRmKeyRange name from to bound) is = absurd (false≢true (ap kind_makes is))
+made_after (OmapClear name) is = absurd (false≢true (ap kind_makes is))
+made_after (Read name offset count) is = absurd (false≢true (ap kind_makes is))
+made_after (Stat name) is = absurd (false≢true (ap kind_makes is))
+made_after (GetAttr name key) is = absurd (false≢true (ap kind_makes is))
+made_after (GetAttrs name) is = absurd (false≢true (ap kind_makes is))
+made_after (OmapGet name key) is = absurd (false≢true (ap kind_makes is))
+made_after (OmapList name limit after) is = absurd (false≢true (ap kind_makes is))
+made_after (ListNames limit after) is = absurd (false≢true (ap kind_makes is))

@@ -1,21 +1,31 @@
 -- What an operation answers and changes, when it is refused, and the answer to a request.
-use Rattle.std.specs.Prelude.{ℕ, ◌+◌, ◌-◌, List, [], ◌∷◌, ◌++◌, length, take, drop, replicate, Option, Some, None, Bool, cond, nat_lt, option_map, unwrap_or}
+use Rattle.std.specs.Prelude.{ℕ, ◌+◌, ◌-◌, Bool, cond, nat_lt, Option, Some, None}
+use Rattle.std.specs.Prelude.{List, [], ◌∷◌, ◌++◌, length, take, drop, replicate}
 use Rattle.std.specs.FinMap as map
 use Rattle.sea_object.specs.declared.op.Op.{Op}
-use Rattle.sea_object.specs.declared.op.Op.TheVariants.{Touch, Write, Zero, Truncate, Remove, SetAttr, RmAttr, RmAttrs, OmapSetKeys, OmapRmKeys, OmapRmKeyRange, OmapClear, Read, Stat, GetAttr, GetAttrs, OmapGet, OmapList, List as ListNames}
+use Rattle.sea_object.specs.declared.op.Op.TheVariants.{Touch, Write, Zero, Truncate, Remove}
+use Rattle.sea_object.specs.declared.op.Op.TheVariants.{SetAttr, RmAttr, RmAttrs, OmapSetKeys}
+use Rattle.sea_object.specs.declared.op.Op.TheVariants.{OmapRmKeys, OmapRmKeyRange, OmapClear}
+use Rattle.sea_object.specs.declared.op.Op.TheVariants.{Read, Stat, GetAttr, GetAttrs}
+use Rattle.sea_object.specs.declared.op.Op.TheVariants.{OmapGet, OmapList, List as ListNames}
 use Rattle.sea_object.specs.declared.reply.Item.{Item}
-use Rattle.sea_object.specs.declared.reply.Item.TheVariants.{Unit as Nothing, Absent, Bytes, Number, Names, Pairs}
+use Rattle.sea_object.specs.declared.reply.Item.TheVariants.{Unit as Nothing, Absent, Bytes}
+use Rattle.sea_object.specs.declared.reply.Item.TheVariants.{Number, Names, Pairs}
 use Rattle.sea_object.specs.declared.reply.Why.{Why}
 use Rattle.sea_object.specs.declared.reply.Why.TheVariants.{NoObject, OmapFull, AttrFull}
 use Rattle.sea_object.specs.declared.reply.Reply.{Reply}
 use Rattle.sea_object.specs.declared.reply.Reply.TheVariants.{Done, Refused}
-use Rattle.sea_object.specs.Objects.{Values, ObjectValue, ObjectMap, empty_object, with_object, with_pairs, without_keys, first_pairs, first_names, keys_between}
+use Rattle.sea_object.specs.Objects.{Values, ObjectValue, ObjectMap, empty_object, with_object}
+use Rattle.sea_object.specs.Objects.{with_pairs, without_keys}
+use Rattle.sea_object.specs.Objects.{first_pairs, first_names, keys_between}
 use Rattle.sea_object.specs.Op.{name_of, changes, makes, needs_object}
 
 -- the old bytes with new ones from an offset on, and zeros between where the old ones end before it
 abbrev pub written : ℕ → List ℕ → List ℕ → List ℕ
 written offset bytes old =
-    take offset (old ++ replicate (offset - length old) 0) ++ bytes ++ drop (offset + length bytes) old
+    take offset (old ++ replicate (offset - length old) 0)
+    ++ bytes
+    ++ drop (offset + length bytes) old
 
 -- the bytes cut to a size, or filled with zeros to it
 abbrev pub resized : ℕ → List ℕ → List ℕ
@@ -41,11 +51,13 @@ changed (RmAttr name key) o = with_attributes (map.remove o.attributes key) o
 changed (RmAttrs name) o = with_attributes map.empty o
 changed (OmapSetKeys name pairs) o = with_omap (with_pairs pairs o.omap) o
 changed (OmapRmKeys name keys) o = with_omap (without_keys keys o.omap) o
-changed (OmapRmKeyRange name from to bound) o = with_omap (without_keys (keys_between from to bound o.omap) o.omap) o
+changed (OmapRmKeyRange name from to bound) o =
+    with_omap (without_keys (keys_between from to bound o.omap) o.omap) o
 changed (OmapClear name) o = with_omap map.empty o
 changed _ o = o
 
--- the object of an operation's name, if there is one after the operation: some operations make it first
+-- the object of an operation's name, if there is one after the operation: some operations make it
+-- first
 abbrev pub object_after : Op → Option ObjectValue → Option ObjectValue
 object_after (Remove name) object = None
 object_after op (Some object) = Some (changed op object)
@@ -99,7 +111,9 @@ put_object (Some name) object objects = with_object objects name object
 -- the objects after an operation
 abbrev pub effect : Op → ObjectMap → ObjectMap
 effect op objects =
-    cond (changes op) (put_object (name_of op) (object_after op (object_of (name_of op) objects)) objects) objects
+    cond (changes op)
+    (put_object (name_of op) (object_after op (object_of (name_of op) objects)) objects)
+    objects
 
 -- what an operation on no object answers
 abbrev pub listed : Op → ObjectMap → Item

@@ -1,5 +1,6 @@
 -- Objects as the model has them.
-use Rattle.std.specs.Prelude.{ℕ, List, [], ◌∷◌, Option, Some, None, Bool, true, ◌&&◌, not, filter, take, map as each, length, unwrap_or, refl}
+use Rattle.std.specs.Prelude.{ℕ, List, [], ◌∷◌, filter, take, Option, Some, None}
+use Rattle.std.specs.Prelude.{Bool, true, ◌&&◌, not, refl}
 use Rattle.std.specs.Ordering.{nat_cmp, is_lt, is_le}
 use Rattle.std.specs.Cmp.Lexicographic.{slice_cmp}
 use Rattle.std.specs.declared.ops.Bound.{Bound}
@@ -7,9 +8,13 @@ use Rattle.std.specs.declared.ops.Bound.TheVariants.{Excluded, Unbounded}
 use Rattle.std.specs.FinMap as map
 use Rattle.std.specs.Coded.{Coded, code_by, coded×, coded_ℕ, coded_list}
 
--- values under keys, which are ordered by their bytes
+-- what stands under names or keys, which are ordered by their bytes
+abbrev pub Named : Type 0 → Type 0
+Named X = map.FinMap (slice_cmp nat_cmp) X
+
+-- values under keys
 abbrev pub Values : Type 0
-Values = map.FinMap (slice_cmp nat_cmp) (List ℕ)
+Values = Named (List ℕ)
 
 -- an object: its bytes, its attributes and its omap
 pub record ObjectValue : Type 0 where
@@ -17,21 +22,21 @@ pub record ObjectValue : Type 0 where
   pub attributes : Values
   pub omap : Values
 
--- objects under their names, which are ordered by their bytes
+-- objects under their names
 abbrev pub ObjectMap : Type 0
-ObjectMap = map.FinMap (slice_cmp nat_cmp) ObjectValue
+ObjectMap = Named ObjectValue
 
 -- an object that was just made
 abbrev pub empty_object : ObjectValue
 empty_object = record { bytes = []; attributes = map.empty; omap = map.empty }
 
--- the objects with this one under the name, or with none there
-abbrev pub with_object : ObjectMap → List ℕ → Option ObjectValue → ObjectMap
+-- the same with this one under the name, or with none there
+abbrev pub with_object : {X : Type 0} → Named X → List ℕ → Option X → Named X
 with_object objects name None = map.remove objects name
 with_object objects name (Some object) = map.insert objects name object
 
 -- the pairs put in order, of which the last of one key stays
-abbrev pub with_pairs : {X : Type 0} → List (List ℕ × X) → map.FinMap (slice_cmp nat_cmp) X → map.FinMap (slice_cmp nat_cmp) X
+abbrev pub with_pairs : {X : Type 0} → List (List ℕ × X) → Named X → Named X
 with_pairs [] values = values
 with_pairs (pair ∷ pairs) values = with_pairs pairs (map.insert values pair.0 pair.1)
 
@@ -74,4 +79,8 @@ values_code = map.code {R = slice_cmp nat_cmp} (coded_list coded_ℕ) (coded_lis
 -- an object is stored as its three parts
 abbrev pub object_code : Coded ObjectValue
 object_code =
-    code_by (List ℕ × (Values × Values)) (coded× (coded_list coded_ℕ) (coded× values_code values_code)) (λ o. (o.bytes, (o.attributes, o.omap))) (λ p. record { bytes = p.0; attributes = p.1.0; omap = p.1.1 }) (λ _. refl)
+    code_by (List ℕ × (Values × Values))
+    (coded× (coded_list coded_ℕ) (coded× values_code values_code))
+    (λ o. (o.bytes, (o.attributes, o.omap)))
+    (λ p. record { bytes = p.0; attributes = p.1.0; omap = p.1.1 })
+    (λ _. refl)

@@ -1,8 +1,13 @@
 -- The limits of an operation, and what it weighs.
-use Rattle.std.specs.Prelude.{ℕ, ◌+◌, ◌-◌, ◌/◌, ◌≤◌, List, length, Option, Some, None, Bool, true, false}
+use Rattle.std.specs.Prelude.{ℕ, ◌+◌, ◌-◌, ◌/◌, ◌≤◌, Bool, true, false}
+use Rattle.std.specs.Prelude.{List, length, Option, Some, None}
 use Rattle.std.specs.List.{AllByRecursion}
 use Rattle.sea_object.specs.declared.op.Op.{Op}
-use Rattle.sea_object.specs.declared.op.Op.TheVariants.{Touch, Write, Zero, Truncate, Remove, SetAttr, RmAttr, RmAttrs, OmapSetKeys, OmapRmKeys, OmapRmKeyRange, OmapClear, Read, Stat, GetAttr, GetAttrs, OmapGet, OmapList, List as ListNames}
+use Rattle.sea_object.specs.declared.op.Op.TheVariants.{Touch, Write, Zero, Truncate, Remove}
+use Rattle.sea_object.specs.declared.op.Op.TheVariants.{SetAttr, RmAttr, RmAttrs, OmapSetKeys}
+use Rattle.sea_object.specs.declared.op.Op.TheVariants.{OmapRmKeys, OmapRmKeyRange, OmapClear}
+use Rattle.sea_object.specs.declared.op.Op.TheVariants.{Read, Stat, GetAttr, GetAttrs}
+use Rattle.sea_object.specs.declared.op.Op.TheVariants.{OmapGet, OmapList, List as ListNames}
 use Rattle.sea_object.specs.declared.op.Kind.{Kind}
 use Rattle.sea_object.specs.declared.op.Kind.TheVariants.{Makes, Puts, Takes, Asks}
 

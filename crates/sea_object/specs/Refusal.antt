@@ -1,10 +1,14 @@
 -- Why operations make no request: the first of the reasons, in this order.
-use Rattle.std.specs.Prelude.{◌≡◌, ℕ, ◌-◌, ◌<◌, ◌≤◌, List, [], length, take, slice_get, sum_by, Some}
+use Rattle.std.specs.Prelude.{◌≡◌, ℕ, ◌-◌, ◌<◌, ◌≤◌, Some}
+use Rattle.std.specs.Prelude.{List, [], length, take, slice_get, sum_by}
 use Rattle.std.specs.List.{AllByRecursion}
 use Rattle.sea_object.specs.declared.op.Op.{Op}
 use Rattle.sea_object.specs.declared.request.RequestFault.{RequestFault}
-use Rattle.sea_object.specs.declared.request.RequestFault.TheVariants.{Empty, TooManyOps, BadRange, BadValue, TooManyBlocks, TooManyKeys}
-use Rattle.sea_object.specs.Op.{HasGoodRange, HasGoodValues, IsWithinLimits, data_blocks, key_weight}
+use Rattle.sea_object.specs.declared.request.RequestFault.TheVariants.{Empty, TooManyOps, BadRange}
+use Rattle.sea_object.specs.declared.request.RequestFault.TheVariants.{BadValue}
+use Rattle.sea_object.specs.declared.request.RequestFault.TheVariants.{TooManyBlocks, TooManyKeys}
+use Rattle.sea_object.specs.Op.{HasGoodRange, HasGoodValues, IsWithinLimits}
+use Rattle.sea_object.specs.Op.{data_blocks, key_weight}
 
 -- The operation of this number, counted from 1, has this fault, and those before it have none.
 pub record IsFirstBeyond (Faulty : Op → Type 0) (ops : List Op) (number : ℕ) : Type 0 where
@@ -27,4 +31,7 @@ Refuses ops (BadValue number) = (length ops ≤ 16) × IsFirstBeyond IsBeyondVal
 Refuses ops TooManyBlocks =
     (length ops ≤ 16) × AllByRecursion IsWithinLimits ops × (64 < sum_by data_blocks ops)
 Refuses ops TooManyKeys =
-    (length ops ≤ 16) × AllByRecursion IsWithinLimits ops × (sum_by data_blocks ops ≤ 64) × (32 < sum_by key_weight ops)
+    (length ops ≤ 16)
+    × AllByRecursion IsWithinLimits ops
+    × (sum_by data_blocks ops ≤ 64)
+    × (32 < sum_by key_weight ops)

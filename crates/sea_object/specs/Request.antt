@@ -4,8 +4,8 @@ use Rattle.std.specs.List.{AllByRecursion, list_any}
 use Rattle.sea_object.specs.declared.op.Op.{Op}
 use Rattle.sea_object.specs.Op.{IsWithinLimits, data_blocks, key_weight, adds, takes}
 
--- 1 to 16 operations, each within its limits, that write 64 blocks at most and whose changes of keys
--- weigh 32 at most
+-- 1 to 16 operations, each within its limits, that write 64 blocks at most and whose changes of
+-- keys weigh 32 at most
 pub record IsRequest (ops : List Op) : Type 0 where
   pub some : 1 ≤ length ops
   pub few : length ops ≤ 16

@@ -1,19 +1,25 @@
 -- How operations are taken back: what was replaced is kept, and put back in its place.
-use Rattle.std.specs.Prelude.{◌≡◌, ℕ, ◌+◌, ◌≤◌, List, length, take, Option, Some, None, option_map}
+use Rattle.std.specs.Prelude.{◌≡◌, ℕ, ◌+◌, ◌≤◌, Option, Some, None, option_map}
+use Rattle.std.specs.Prelude.{List, [], ◌∷◌, length, take}
 use Rattle.std.specs.FinMap as map
 use Rattle.sea_object.specs.declared.patch.Saved.{Saved}
 use Rattle.sea_object.specs.declared.content.Earlier.{Earlier}
+use Rattle.sea_object.specs.declared.values.Former.{Former}
+use Rattle.sea_object.specs.declared.values.Former.TheVariants.{Whole, Slots}
+use Rattle.sea_object.specs.declared.values.Kept.{Kept}
 use Rattle.sea_object.specs.declared.undo.Undo.{Undo}
-use Rattle.sea_object.specs.declared.undo.Undo.TheVariants.{Nothing, Slot, Content, Attributes, Omap}
+use Rattle.sea_object.specs.declared.undo.Undo.TheVariants.{Slot, Content, Attributes, Omap}
 use Rattle.sea_object.specs.declared.undo.Step.{Step}
 use Rattle.sea_object.specs.declared.undo.Step.TheVariants.{Unchanged, Changed, Added}
 use Rattle.sea_object.specs.declared.undo.Halt.{Halt}
 use Rattle.sea_object.specs.declared.undo.Halt.TheVariants.{NoMemory, Refused}
 use Rattle.sea_object.specs.declared.undo.Stop.{Stop}
-use Rattle.sea_object.specs.declared.undo.Stop.TheVariants.{NoMemory as OutOfMemory, Refused as RefusedAt}
+use Rattle.sea_object.specs.declared.undo.Stop.TheVariants.{NoMemory as OutOfMemory}
+use Rattle.sea_object.specs.declared.undo.Stop.TheVariants.{Refused as RefusedAt}
 use Rattle.sea_object.specs.declared.reply.Why.{Why}
 use Rattle.sea_object.specs.Answer.{written}
-use Rattle.sea_object.specs.Held.{Stored, Held, SlotMap}
+use Rattle.sea_object.specs.Objects.{Named}
+use Rattle.sea_object.specs.Held.{Stored, Held, SlotMap, ValueSlots}
 
 -- what is saved can be put back into these bytes
 abbrev pub Fits : Saved → List ℕ → Type 0
@@ -33,10 +39,31 @@ restored_replaced None bytes = bytes
 restored_replaced (Some saved) bytes = restored saved bytes
 
 abbrev pub CanRestore : Earlier → Stored → Type 0
-CanRestore earlier stored = (earlier.size ≤ 16777216) × FitsReplaced earlier.size earlier.replaced stored.bytes
+CanRestore earlier stored =
+    (earlier.size ≤ 16777216) × FitsReplaced earlier.size earlier.replaced stored.bytes
 
 abbrev pub restored_content : Earlier → Stored → Stored
-restored_content earlier stored = record { bytes = restored_replaced earlier.replaced stored.bytes; size = earlier.size }
+restored_content earlier stored =
+    record { bytes = restored_replaced earlier.replaced stored.bytes; size = earlier.size }
+
+-- a slot that is there, with this in it
+abbrev pub refilled : {X : Type 0} → Named X → List ℕ → X → Option X → Named X
+refilled slots key slot None = slots
+refilled slots key slot (Some other) = map.insert slots key slot
+
+-- the slots with this one as it was, or without it where there was none
+abbrev pub put_back_slot : ValueSlots → List ℕ → Option (Option (List ℕ)) → ValueSlots
+put_back_slot slots key None = map.remove slots key
+put_back_slot slots key (Some slot) = refilled slots key slot (map.get slots key)
+
+-- the slots before some of them were changed, the last one first
+abbrev pub before_changes : List Kept → ValueSlots → ValueSlots
+before_changes [] slots = slots
+before_changes (kept ∷ log) slots = put_back_slot (before_changes log slots) kept.key kept.slot
+
+abbrev pub values_before : Former → ValueSlots → ValueSlots
+values_before (Whole values) slots = values
+values_before (Slots log) slots = before_changes log slots
 
 -- the operation can be taken back from this object
 abbrev pub CanUndo : Undo → Held → Type 0
@@ -46,8 +73,8 @@ CanUndo _ held = Unit {0}
 -- the object once it is
 abbrev pub undone : Undo → Held → Held
 undone (Content earlier) held = record held { stored = restored_content earlier held.stored }
-undone (Attributes values) held = record held { attributes = values }
-undone (Omap values) held = record held { omap = values }
+undone (Attributes former) held = record held { attributes = values_before former held.attributes }
+undone (Omap former) held = record held { omap = values_before former held.omap }
 undone _ held = held
 
 -- the same of a slot

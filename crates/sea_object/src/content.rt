@@ -79,7 +79,8 @@ impl Content {
         requires within { offset ≤ self.old.size }
         requires few { offset + length source.now ≤ 16777216 }
         ensures bytes { OnOk result (self.new.bytes ≡ written offset source.now self.old.bytes) }
-        ensures size { OnOk result (self.new.size ≡ max self.old.size (offset + length source.now)) }
+        ensures size { OnOk result
+            (self.new.size ≡ max self.old.size (offset + length source.now)) }
         ensures can { IfOk result (λ earlier. CanRestore earlier self.new) }
         ensures earlier { IfOk result (λ earlier. restored_content earlier self.new ≡ self.old) }
         ensures err { OnErr result (self.new ≡ self.old) }

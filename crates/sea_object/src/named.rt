@@ -18,7 +18,8 @@ pub(crate) fn copy_named<T: Duplicate + Drop>(
     alloc: Global,
     named: &BTreeMap<Name, T>,
 ) -> Result<BTreeMap<Name, T>, NoMemory>
-    ensures { IfOk result (λ made. from_entries {R = slice_cmp nat_cmp} made.entries ≡ from_entries named.now.entries) }
+    ensures { IfOk result (λ made.
+        from_entries {R = slice_cmp nat_cmp} made.entries ≡ from_entries named.now.entries) }
 {
     let mut made = BTreeMap::new(alloc);
     for (name, value) in named {

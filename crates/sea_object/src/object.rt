@@ -1,8 +1,10 @@
 //! One object.
-ghost use Rattle.std.specs.Prelude.{◌≡◌, ◌≤◌, ◌+◌, length, take, drop, Some, None, IfOk, IfErr, OnOk, OnErr};
+ghost use Rattle.std.specs.Prelude.{◌≡◌, ◌≤◌, ◌+◌, length, take, drop};
+ghost use Rattle.std.specs.Prelude.{Some, None, IfOk, IfErr, OnOk, OnErr};
 ghost use Rattle.std.specs.FinMap as map;
-ghost use Rattle.sea_object.specs.Answer.{changed, overfills, overfull, resized, told, value_item, with_bytes, written};
-ghost use Rattle.sea_object.specs.Held.{new_held, shown};
+ghost use Rattle.sea_object.specs.Answer.{changed, overfills, told, value_item};
+ghost use Rattle.sea_object.specs.Answer.{resized, with_bytes, written};
+ghost use Rattle.sea_object.specs.Held.{new_held, shown, values_in};
 ghost use Rattle.sea_object.specs.Op.{IsWithinLimits};
 ghost use Rattle.sea_object.specs.Undo.{CanUndo, CanUndoSlot, MayHalt, undone, undone_slot};
 
@@ -13,7 +15,6 @@ use crate::{Item, Op, Why, patch};
 use sea_base::{Data, Duplicate, Key, NoMemory};
 use std::alloc::Global;
 use std::marker::Model;
-use std::mem;
 
 /// The attributes of an object at most.
 pub const ATTRIBUTES: usize = 64;
@@ -102,7 +103,8 @@ impl Object {
     }
 
     fn read(&self, offset: usize, length: usize) -> Result<Item, NoMemory>
-        ensures { IfOk result (λ item. item ≡ Item.Bytes (take length (drop offset (shown self.now).bytes))) }
+        ensures { IfOk result
+            (λ item. item ≡ Item.Bytes (take length (drop offset (shown self.now).bytes))) }
     {
         let part = patch::part(self.bytes(), offset, length);
         Ok(Item::Bytes(Data::new(self.alloc, part)?))
@@ -127,22 +129,20 @@ impl Object {
             }
             Op::Truncate { size, .. } => Ok(self.resize(*size as usize)?),
             Op::SetAttr { key, value, .. } => {
-                let values = self.attributes.with_pair(key, value)?;
-                Ok(self.set_attributes(within(values, ATTRIBUTES, Why::AttrFull)?))
+                let pair = [(key.copy()?, value.copy()?)];
+                let former = self.attributes.put_all(&pair, ATTRIBUTES, Why::AttrFull)?;
+                Ok(Undo::Attributes(former))
             }
             Op::RmAttr { key, .. } => {
-                let values = self.attributes.without_key(key)?;
-                Ok(self.set_attributes(values))
+                let former = self.attributes.take_all(&[key.copy()?])?;
+                Ok(Undo::Attributes(former))
             }
-            Op::RmAttrs { .. } => Ok(self.set_attributes(Values::new(self.alloc))),
+            Op::RmAttrs { .. } => Ok(Undo::Attributes(self.attributes.clear())),
             Op::OmapSetKeys { pairs, .. } => {
-                let values = self.omap.with_pairs(pairs.items())?;
-                Ok(self.set_omap(within(values, OMAP_KEYS, Why::OmapFull)?))
+                let former = self.omap.put_all(pairs.items(), OMAP_KEYS, Why::OmapFull)?;
+                Ok(Undo::Omap(former))
             }
-            Op::OmapRmKeys { keys, .. } => {
-                let values = self.omap.without_keys(keys.items())?;
-                Ok(self.set_omap(values))
-            }
+            Op::OmapRmKeys { keys, .. } => Ok(Undo::Omap(self.omap.take_all(keys.items())?)),
             Op::OmapRmKeyRange {
                 from,
                 to,
@@ -150,17 +150,18 @@ impl Object {
                 ..
             } => {
                 let keys = self.omap.keys_between(from, to, *bound as usize)?;
-                let values = self.omap.without_keys(keys.items())?;
-                Ok(self.set_omap(values))
+                Ok(Undo::Omap(self.omap.take_all(keys.items())?))
             }
-            Op::OmapClear { .. } => Ok(self.set_omap(Values::new(self.alloc))),
+            Op::OmapClear { .. } => Ok(Undo::Omap(self.omap.clear())),
             _ => Ok(Undo::Nothing),
         }
     }
 
     fn write(&mut self, offset: usize, bytes: &[u8]) -> Result<Undo, NoMemory>
         requires { offset + length bytes.now ≤ 16777216 }
-        ensures ok { OnOk result (shown self.new ≡ with_bytes (written offset bytes.now (shown self.old).bytes) (shown self.old)) }
+        ensures ok { OnOk result
+            (shown self.new ≡
+            with_bytes (written offset bytes.now (shown self.old).bytes) (shown self.old)) }
         ensures can { IfOk result (λ undo. CanUndoSlot undo (Some self.new)) }
         ensures undo { IfOk result (λ undo. undone_slot undo (Some self.new) ≡ Some self.old) }
         ensures err { OnErr result (self.new ≡ self.old) }
@@ -170,26 +171,13 @@ impl Object {
 
     fn resize(&mut self, size: usize) -> Result<Undo, NoMemory>
         requires { size ≤ 16777216 }
-        ensures ok { OnOk result (shown self.new ≡ with_bytes (resized size (shown self.old).bytes) (shown self.old)) }
+        ensures ok { OnOk result
+            (shown self.new ≡ with_bytes (resized size (shown self.old).bytes) (shown self.old)) }
         ensures can { IfOk result (λ undo. CanUndoSlot undo (Some self.new)) }
         ensures undo { IfOk result (λ undo. undone_slot undo (Some self.new) ≡ Some self.old) }
         ensures err { OnErr result (self.new ≡ self.old) }
     {
         Ok(Undo::Content(self.content.resize(size)?))
-    }
-
-    fn set_attributes(&mut self, values: Values) -> Undo
-        ensures after { self.new ≡ record self.old { attributes = values } }
-        ensures undo { result ≡ Undo.Attributes self.old.attributes }
-    {
-        Undo::Attributes(mem::replace(&mut self.attributes, values))
-    }
-
-    fn set_omap(&mut self, values: Values) -> Undo
-        ensures after { self.new ≡ record self.old { omap = values } }
-        ensures undo { result ≡ Undo.Omap self.old.omap }
-    {
-        Undo::Omap(mem::replace(&mut self.omap, values))
     }
 
     /// Takes an operation back.
@@ -199,9 +187,20 @@ impl Object {
     {
         match undo {
             Undo::Content(earlier) => self.content.restore(&earlier),
-            Undo::Attributes(values) => self.attributes = values,
-            Undo::Omap(values) => self.omap = values,
+            Undo::Attributes(former) => self.attributes.restore(former),
+            Undo::Omap(former) => self.omap.restore(former),
             Undo::Nothing | Undo::Slot(_) => {}
+        }
+    }
+
+    /// Gives up what would take an operation back.
+    pub(crate) fn settle(&mut self, undo: Undo)
+        ensures { shown self.new ≡ shown self.old }
+    {
+        match undo {
+            Undo::Attributes(former) => self.attributes.settle(former),
+            Undo::Omap(former) => self.omap.settle(former),
+            Undo::Nothing | Undo::Slot(_) | Undo::Content(_) => {}
         }
     }
 }
@@ -217,19 +216,8 @@ impl Duplicate for Object {
     }
 }
 
-// The values, unless there are too many.
-fn within(values: Values, limit: usize, why: Why) -> Result<Values, Halt>
-    ensures ok { IfOk result (λ kept. (kept ≡ values) × (overfull limit values why ≡ None)) }
-    ensures refused { IfErr result (MayHalt (overfull limit values why)) }
-{
-    if values.len() > limit {
-        return Err(Halt::Refused(why));
-    }
-    Ok(values)
-}
-
 fn value_of(values: &Values, key: &Key) -> Result<Item, NoMemory>
-    ensures { IfOk result (λ item. item ≡ value_item (map.get values.now key.now)) }
+    ensures { IfOk result (λ item. item ≡ value_item (map.get (values_in values.now) key.now)) }
 {
     match values.get(key) {
         Some(value) => Ok(Item::Bytes(value.copy()?)),

@@ -1,6 +1,7 @@
 //! Operations on objects, and the limits of each.
 ghost use Rattle.std.specs.Prelude.{◌≡◌, ◌↔◌, ◌+◌, ◌^◌, ◌≤◌, ◌<◌, IsTrue, IfOk};
-ghost use Rattle.sea_object.specs.Op.{HasGoodRange, HasGoodValues, blocks_touched, data_blocks, key_weight};
+ghost use Rattle.sea_object.specs.Op.{HasGoodRange, HasGoodValues};
+ghost use Rattle.sea_object.specs.Op.{blocks_touched, data_blocks, key_weight};
 ghost use Rattle.sea_object.specs.Op.{kind, kind_changes, name_of};
 ghost use Rattle.std.specs.Option.{option_copied};
 

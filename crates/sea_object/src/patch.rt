@@ -1,5 +1,6 @@
 //! Bytes read and written in place, and writes taken back.
-ghost use Rattle.std.specs.Prelude.{◌≡◌, ◌+◌, ◌≤◌, ◌<◌, ◌^◌, length, take, drop, replicate, ◌++◌, IfOk, OnOk, OnErr};
+ghost use Rattle.std.specs.Prelude.{◌≡◌, ◌+◌, ◌≤◌, ◌<◌, ◌^◌, IfOk, OnOk, OnErr};
+ghost use Rattle.std.specs.Prelude.{length, take, drop, replicate, ◌++◌};
 ghost use Rattle.sea_object.specs.Answer.{written};
 ghost use Rattle.sea_object.specs.Undo.{Fits, restored};
 
@@ -27,7 +28,8 @@ pub(crate) fn part(bytes: &[u8], offset: usize, length: usize) -> &[u8]
 pub(crate) fn write_at(bytes: &mut Vec<u8>, offset: usize, source: &[u8]) -> Result<Saved, NoMemory>
     requires { offset < 2 ^ 63 }
     ensures ok { OnOk result (bytes.new.items ≡ written offset source.now bytes.old.items) }
-    ensures saved { IfOk result (λ saved. Fits saved bytes.new.items × (restored saved bytes.new.items ≡ bytes.old.items)) }
+    ensures saved { IfOk result (λ saved.
+        Fits saved bytes.new.items × (restored saved bytes.new.items ≡ bytes.old.items)) }
     ensures err { OnErr result (bytes.new.items ≡ bytes.old.items) }
 {
     let size = bytes.len();

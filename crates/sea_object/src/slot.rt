@@ -8,13 +8,15 @@ ghost use Rattle.sea_object.specs.Undo.{CanUndoSlot, MayHalt, undone_slot};
 use crate::undo::{Halt, Undo};
 use crate::{Kind, Object, Op, Why};
 use std::alloc::Global;
+use std::mem::drop;
 
 /// Has an operation's effect on a slot, and answers what takes it back. Where the operation comes
 /// to a halt all is as before.
 pub(crate) fn change_slot(alloc: Global, slot: &mut Option<Object>, op: &Op) -> Result<Undo, Halt>
     requires { IsWithinLimits op.now }
     ensures fits { OnOk result (refusal_at op.now (option_map shown slot.old) ≡ None) }
-    ensures ok { OnOk result (option_map shown slot.new ≡ object_after op.now (option_map shown slot.old)) }
+    ensures ok { OnOk result
+        (option_map shown slot.new ≡ object_after op.now (option_map shown slot.old)) }
     ensures can { IfOk result (λ undo. CanUndoSlot undo slot.new) }
     ensures undo { IfOk result (λ undo. undone_slot undo slot.new ≡ slot.old) }
     ensures err { OnErr result (slot.new ≡ slot.old) }
@@ -30,7 +32,8 @@ pub(crate) fn change_slot(alloc: Global, slot: &mut Option<Object>, op: &Op) -> 
 fn change_object(slot: &mut Option<Object>, mut object: Object, op: &Op) -> Result<Undo, Halt>
     requires { IsWithinLimits op.now }
     ensures fits { OnOk result (refusal_at op.now (Some (shown object)) ≡ None) }
-    ensures ok { OnOk result (option_map shown slot.new ≡ object_after op.now (Some (shown object))) }
+    ensures ok { OnOk result
+        (option_map shown slot.new ≡ object_after op.now (Some (shown object))) }
     ensures can { IfOk result (λ undo. CanUndoSlot undo slot.new) }
     ensures undo { IfOk result (λ undo. undone_slot undo slot.new ≡ Some object) }
     ensures err { OnErr result (slot.new ≡ Some object) }
@@ -81,4 +84,15 @@ pub(crate) fn undo_slot(slot: &mut Option<Object>, undo: Undo)
             }
         }
     }
+}
+
+/// Gives up what would take an operation on a slot back.
+pub(crate) fn settle_slot(slot: &mut Option<Object>, undo: Undo)
+    ensures { option_map shown slot.new ≡ option_map shown slot.old }
+{
+    if let Some(object) = slot {
+        object.settle(undo);
+        return;
+    }
+    drop(undo);
 }

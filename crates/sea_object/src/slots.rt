@@ -1,14 +1,18 @@
 //! Slots for objects under their names.
-ghost use Rattle.std.specs.Prelude.{◌≡◌, ◌++◌, ◌+◌, ◌<◌, ◌^◌, None, length, IfOk, IfErr, OnOk, OnErr};
+ghost use Rattle.std.specs.Prelude.{◌≡◌, ◌++◌, ◌+◌, ◌<◌, ◌^◌, None, length};
+ghost use Rattle.std.specs.Prelude.{IfOk, IfErr, OnOk, OnErr};
 ghost use Rattle.std.specs.List.{AllByRecursion};
 ghost use Rattle.std.specs.Option.{option_copied, option_flatten};
-ghost use Rattle.sea_object.specs.Answer.{effect, effects, first_refused, item, item_at, items, listed, object_after, refusal, refusal_at};
+ghost use Rattle.sea_object.specs.Answer.{effect, effects, object_after};
+ghost use Rattle.sea_object.specs.Answer.{first_refused, refusal, refusal_at};
+ghost use Rattle.sea_object.specs.Answer.{item, item_at, items, listed};
 ghost use Rattle.sea_object.specs.Objects.{first_names};
 ghost use Rattle.sea_object.specs.Op.{IsWithinLimits, name_of};
-ghost use Rattle.sea_object.specs.Undo.{CanStepBack, CanTakeBack, CanUndoFound, MayHalt, MayStop, put_back, stepped_back, taken_back};
+ghost use Rattle.sea_object.specs.Undo.{CanStepBack, CanTakeBack, CanUndoFound, MayHalt, MayStop};
+ghost use Rattle.sea_object.specs.Undo.{put_back, stepped_back, taken_back};
 
 use crate::named::{behind, copy_named};
-use crate::slot::{change_slot, undo_slot};
+use crate::slot::{change_slot, settle_slot, undo_slot};
 use crate::undo::{Halt, Step, Stop, Undo};
 use crate::{Item, Items, Object, Op};
 use sea_base::{Duplicate, Name, Names, NoMemory};
@@ -63,7 +67,8 @@ impl Slots {
 
     /// The first names in order, of those behind one, `limit` of them at most.
     pub(crate) fn names(&self, limit: usize, after: Option<&Name>) -> Result<Names, NoMemory>
-        ensures { IfOk result (λ names. names ≡ first_names limit (option_copied after.entry) (shown_objects self.now)) }
+        ensures { IfOk result (λ names.
+            names ≡ first_names limit (option_copied after.entry) (shown_objects self.now)) }
     {
         let mut names = Names::new(self.alloc);
         let start = behind(after)?;
@@ -100,7 +105,8 @@ impl Slots {
     }
 
     fn item_of(&self, name: &Name, op: &Op) -> Result<Item, NoMemory>
-        ensures { IfOk result (λ made. made ≡ item_at op.now (map.get (shown_objects self.now) name.now)) }
+        ensures { IfOk result
+            (λ made. made ≡ item_at op.now (map.get (shown_objects self.now) name.now)) }
     {
         match self.get(name) {
             Some(object) => object.item(op),
@@ -130,12 +136,16 @@ impl Slots {
 
     fn change_at(&mut self, name: &Name, op: &Op) -> Result<Step, Halt>
         requires { IsWithinLimits op.now }
-        ensures fits { OnOk result (refusal_at op.now (map.get (shown_objects self.old) name.now) ≡ None) }
-        ensures ok { OnOk result (shown_objects self.new ≡ with_object (shown_objects self.old) name.now (object_after op.now (map.get (shown_objects self.old) name.now))) }
+        ensures fits { OnOk result
+            (refusal_at op.now (map.get (shown_objects self.old) name.now) ≡ None) }
+        ensures ok { OnOk result
+            (shown_objects self.new ≡ with_object (shown_objects self.old) name.now
+            (object_after op.now (map.get (shown_objects self.old) name.now))) }
         ensures can { IfOk result (λ step. CanStepBack step name.now self.new) }
         ensures undo { IfOk result (λ step. stepped_back step name.now self.new ≡ self.old) }
         ensures err { OnErr result (self.new ≡ self.old) }
-        ensures refused { IfErr result (MayHalt (refusal_at op.now (map.get (shown_objects self.old) name.now))) }
+        ensures refused { IfErr result
+            (MayHalt (refusal_at op.now (map.get (shown_objects self.old) name.now))) }
     {
         if let Some(slot) = self.slots.get_mut(name) {
             return Ok(Step::Changed(change_slot(self.alloc, slot, op)?));
@@ -151,11 +161,14 @@ impl Slots {
     pub(crate) fn run(&mut self, number: u32, ops: &[Op], answers: &mut Items) -> Result<(), Stop>
         requires limits { AllByRecursion IsWithinLimits ops.now }
         requires few { number + length ops.now < 2 ^ 32 }
-        ensures items { OnOk result (answers.new ≡ answers.old ++ items ops.now (shown_objects self.old)) }
-        ensures after { OnOk result (shown_objects self.new ≡ effects ops.now (shown_objects self.old)) }
+        ensures items { OnOk result
+            (answers.new ≡ answers.old ++ items ops.now (shown_objects self.old)) }
+        ensures after { OnOk result
+            (shown_objects self.new ≡ effects ops.now (shown_objects self.old)) }
         ensures done { OnOk result (first_refused ops.now number (shown_objects self.old) ≡ None) }
         ensures err { OnErr result (self.new ≡ self.old) }
-        ensures refused { IfErr result (MayStop (first_refused ops.now number (shown_objects self.old))) }
+        ensures refused { IfErr result
+            (MayStop (first_refused ops.now number (shown_objects self.old))) }
     {
         let Some((op, rest)) = ops.split_first() else {
             return Ok(());
@@ -168,8 +181,29 @@ impl Slots {
         let done = self.run(number + 1, rest, answers);
         if done.is_err() {
             self.take_back(op, step);
+        } else {
+            self.settle(op, step);
         }
         done
+    }
+
+    // Gives up what would take an operation back.
+    fn settle(&mut self, op: &Op, step: Step)
+        ensures { shown_objects self.new ≡ shown_objects self.old }
+    {
+        if let (Some(name), Step::Changed(undo)) = (op.name(), step) {
+            self.settle_at(name, undo);
+        }
+    }
+
+    fn settle_at(&mut self, name: &Name, undo: Undo)
+        ensures { shown_objects self.new ≡ shown_objects self.old }
+    {
+        if let Some(slot) = self.slots.get_mut(name) {
+            settle_slot(slot, undo);
+            return;
+        }
+        drop(undo);
     }
 
     // Takes an operation back.

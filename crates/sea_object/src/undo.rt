@@ -5,7 +5,7 @@ ghost use Rattle.sea_object.specs.Undo.{stop_at};
 use crate::Why;
 use crate::content::Earlier;
 use crate::object::Object;
-use crate::values::Values;
+use crate::values::Former;
 use std::alloc::{AllocError, AllocFailed};
 
 /// What was replaced in a slot.
@@ -17,10 +17,10 @@ pub(crate) enum Undo {
     Slot(Option<Object>),
     /// Bytes of the object.
     Content(Earlier),
-    /// Its attributes.
-    Attributes(Values),
-    /// Its omap.
-    Omap(Values),
+    /// Some of its attributes, or all.
+    Attributes(Former),
+    /// Some of its omap, or all.
+    Omap(Former),
 }
 
 /// What an operation did to the slots.

@@ -2,7 +2,7 @@ use Rattle.std.proofs.Common.{sym, ap, ◌∙◌}
 use Rattle.std.specs.Prelude.{option_map}
 use Rattle.std.specs.FinMap as map
 use Rattle.sea_object.specs.Held.{shown}
-use Rattle.sea_object.proofs.Shown.{get-shown}
+use Rattle.sea_object.proofs.ShownObjects.{get-shown}
 use Rattle.sea_object.proofs.objects.Objects.get.Goals as goal
 
 pub returns : goal.returns

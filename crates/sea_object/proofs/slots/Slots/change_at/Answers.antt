@@ -7,7 +7,7 @@ use Rattle.sea_object.specs.Held.{shown_objects}
 use Rattle.sea_object.specs.Objects.{with_object}
 use Rattle.sea_object.specs.Undo.{CanUndoFound, MayHalt, put_back}
 use Rattle.sea_object.proofs.Lookups.{get_entry, get-insert_same, insert-insert, insert_same, one_given, remove-insert, written_through}
-use Rattle.sea_object.proofs.Shown.{get-shown, seen, shown-insert}
+use Rattle.sea_object.proofs.ShownObjects.{get-shown, seen, shown-insert}
 use Rattle.sea_object.proofs.slots.Slots.change_at.Goals as goal
 
 on_err : {T E P : Type 0} (r : Result T E) → P → OnErr r P

@@ -2,7 +2,7 @@ use Rattle.std.proofs.Common.{◌≡◌, sym, ap, subst, ◌∙◌}
 use Rattle.std.specs.Prelude.{IfOk, option_map}
 use Rattle.sea_object.specs.Answer.{item_at}
 use Rattle.sea_object.specs.Held.{shown}
-use Rattle.sea_object.proofs.Shown.{get-shown}
+use Rattle.sea_object.proofs.ShownObjects.{get-shown}
 use Rattle.sea_object.proofs.slots.Slots.item_of.Goals as goal
 
 pub returns-in-Some : goal.returns-in-Some

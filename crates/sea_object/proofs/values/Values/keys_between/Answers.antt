@@ -4,6 +4,7 @@ use Rattle.std.specs.Prelude.{filter, not, ◌&&◌}
 use Rattle.std.proofs.lemmas.Bool.{false≢true}
 use Rattle.std.specs.FinMap as map
 use Rattle.std.specs.Ordering.{is_lt}
+use Rattle.sea_object.specs.Held.{values_in}
 use Rattle.sea_object.specs.Objects.{is_from}
 use Rattle.sea_object.proofs.Order.{filter_none, none_between, is_less}
 use Rattle.sea_object.proofs.values.Values.keys_between.Goals as goal
@@ -16,4 +17,4 @@ returns-else-is_below c =
     let from = c.args.from.now in
     let to = c.args.to.now in
     c.new.ensures
-    ∙ sym (ap (take c.args.bound) (filter_none (λ key. is_from from key && not (is_from to key)) (none_between from to (λ less. false≢true (sym c.if-is_below.false ∙ c.is_below.ensures ∙ ap is_lt less))) (map.keys c.args.self.now)) ∙ take_all c.args.bound [] (omega arith))
+    ∙ sym (ap (take c.args.bound) (filter_none (λ key. is_from from key && not (is_from to key)) (none_between from to (λ less. false≢true (sym c.if-is_below.false ∙ c.is_below.ensures ∙ ap is_lt less))) (map.keys (values_in c.args.self.now))) ∙ take_all c.args.bound [] (omega arith))

@@ -1,15 +1,18 @@
-use Rattle.std.proofs.Common.{sym, ap, ◌∙◌}
-use Rattle.std.specs.FinMap as map
-use Rattle.sea_object.proofs.Lookups.{one_given}
+use Rattle.std.proofs.Common.{ap, ◌∙◌}
+use Rattle.sea_object.specs.Held.{values_in}
+use Rattle.sea_object.specs.Undo.{before_changes}
+use Rattle.sea_object.proofs.Logs.{before_more, filled_back, values_put}
+use Rattle.sea_object.proofs.Results.{on_ok}
 use Rattle.sea_object.proofs.values.Values.put.Goals as goal
 
-pub returns : goal.returns
-returns c =
-    let before = c.self.inside.pairs.entries in
-    record {
-      ok =
-          one_given before c.insert-2.new.self.entries c.in_ok-copy.field-0 c.in_ok-copy-2.field-0 c.in_ok-insert.ensures.updates.0
-          ∙ ap (λ key. map.insert (map.from_entries before) key c.in_ok-copy-2.field-0) c.in_ok-copy.ensures
-          ∙ ap (λ value. map.insert (map.from_entries before) c.args.key.now value) c.in_ok-copy-2.ensures
-          ∙ ap (λ m. map.insert m c.args.key.now c.args.value.now) c.self.view_is;
-    }
+pub returns-clause-ok : goal.returns-clause-ok
+returns-clause-ok c =
+    on_ok c.fill.result (λ filled. ap values_in filled ∙ values_put c.args.self.now c.args.key.now c.args.value.now) c.fill.ensures.ok
+
+pub returns-clause-before : goal.returns-clause-before
+returns-clause-before c =
+    let m = c.args.self.now in
+    let new = c.fill.new.self in
+    ap (λ log. before_changes log new) c.in_ok-note.ensures.ok
+    ∙ before_more c.args.log.now _ new
+    ∙ ap (before_changes c.args.log.now) (filled_back c.fill.result m new c.args.key.now c.args.value.now c.fill.ensures.ok c.fill.ensures.err)
