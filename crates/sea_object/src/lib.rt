@@ -5,6 +5,7 @@ mod content;
 mod named;
 mod object;
 mod objects;
+mod onode;
 mod op;
 mod patch;
 mod reply;
@@ -16,6 +17,7 @@ mod values;
 
 pub use object::Object;
 pub use objects::Objects;
+pub use onode::Onode;
 pub use op::{Kind, OBJECT_BYTES, Op, Ops, READ_BYTES, VALUE_BYTES};
 pub use reply::{Item, Items, Reply, Why};
 pub use request::{Request, RequestFault};
