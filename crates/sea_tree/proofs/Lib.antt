@@ -8,6 +8,7 @@ pub mod Doing
 pub mod Forms
 pub mod Frames
 pub mod Holding
+pub mod Kept
 pub mod Leaves
 pub mod Listed
 pub mod Lone

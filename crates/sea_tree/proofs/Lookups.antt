@@ -21,7 +21,9 @@ use Rattle.sea_tree.specs.Calls.{IsPathFault, IsWholePath}
 use Rattle.sea_tree.specs.Content.{HasContent}
 use Rattle.sea_tree.specs.Place.{Splits, IsPlaceFault}
 use Rattle.sea_tree.specs.Path.{ComesDown, IsPath}
-use Rattle.sea_tree.specs.Lookup.{LooksDown, LooksAtLeaf}
+use Rattle.sea_tree.specs.Lookup.{LooksDown, IsSeen, IsFound, HoldsLeaf}
+use Rattle.sea_tree.specs.declared.lookup.Sight.{Sight}
+use Rattle.sea_tree.specs.declared.leaf.Leaf.{Leaf}
 use Rattle.sea_tree.proofs.Paths.{ComesDown-later, Descends-laid, no_break}
 use Rattle.sea_tree.specs.Reads.{IsOnPath}
 use Rattle.sea_tree.proofs.OnPaths.{step_on_path}
@@ -162,6 +164,10 @@ module _ (mid new : Seen) (root : ℕ) (key : List ℕ) (upper : Option (List �
     tells = tells;
   }
 
+  pub found_further : (next : Sight) (entries : List Entry) → next.lookup.level ≡ lookup.level - 1 → HasNode new.view (lookup.level - 1) child below entries → Tells key entries next.lookup → IsKnown new child → IsSeen new child next → IsFound new root key below.upper next
+  unfolding looks_further
+  found_further next entries level has tells known seen = record { looks = looks_further next.lookup entries level has tells known; is = seen }
+
   pub look_fault : (old : Seen) → OnlyRead old new → IsSound new → (fault : TreeFault) → IsPlaceFault (lookup.level - 1) child below new fault → IsPathFault root key old new fault
   unfolding step
   look_fault old all sound fault blames =
@@ -174,39 +180,47 @@ module _ (mid new : Seen) (root : ℕ) (key : List ℕ) (upper : Option (List �
 
 -- ---- the leaf
 
-module _ (old new : Seen) (root : ℕ) (key : List ℕ) (lookup : Lookup) (reads : OnlyRead old new) (sound : IsSound new) (at_leaf : LooksAtLeaf new root key lookup) where
-  looks : LooksDown new root key at_leaf.upper lookup
-  looks = at_leaf.down
+-- what a node tells of its value under a key
+module _ (key : List ℕ) (entries : List Entry) (lookup : Lookup) (rising : IsRising entries) (tells : Tells key entries lookup) where
+  finds : (found : Option Entry) → lookup.found ≡ found → Finds key entries found lookup.next
+  finds found is = subst (λ (f : Option Entry). Finds key entries f lookup.next) is tells.finds
 
-  down : ComesDown new root key looks.steps 0 looks.at looks.bounds looks.entries
-  down = subst (λ (l : ℕ). ComesDown new root key looks.steps l looks.at looks.bounds looks.entries) at_leaf.leaf looks.down
+  pub value_there : (e : Entry) → lookup.found ≡ Some e → e.0 ≡ key → Some e.1 ≡ find key_order key entries
+  value_there e is same = sym (found_equal key entries e lookup.next rising (finds (Some e) is) same)
 
-  path : (store : Store) → Agrees store new → IsPath (laid old store) down.top root root_bounds looks.steps key looks.at looks.entries looks.bounds
+  pub value_elsewhere : (e : Entry) → lookup.found ≡ Some e → (e.0 ≡ key → ⊥) → None ≡ find key_order key entries
+  value_elsewhere e is other = sym (found_other key entries e lookup.next rising (finds (Some e) is) other)
+
+  pub value_nowhere : lookup.found ≡ None → None ≡ find key_order key entries
+  value_nowhere is = sym (find_above key entries (finds None is).0)
+
+-- what is found at level 0 is the leaf
+pub leaf_held : (seen : Seen) (root : ℕ) (key : List ℕ) (upper : Option (List ℕ)) (sight : Sight) (value : Option (List ℕ)) → sight.lookup.level ≡ 0 → IsFound seen root key upper sight
+    → ((entries : List Entry) → IsRising entries → Tells key entries sight.lookup → value ≡ find key_order key entries) → HoldsLeaf seen root key (record { at = sight.at; block = sight.block; value = value })
+leaf_held seen root key upper sight value leaf found is =
+    let looks = found.looks in
+    let down : ComesDown seen root key looks.steps 0 looks.at looks.bounds looks.entries = subst (λ (l : ℕ). ComesDown seen root key looks.steps l looks.at looks.bounds looks.entries) leaf looks.down in
+    record {
+      steps = looks.steps;
+      bounds = looks.bounds;
+      entries = looks.entries;
+      down = subst (λ (at : ℕ). ComesDown seen root key looks.steps 0 at looks.bounds looks.entries) (sym found.is.here) down;
+      stands = subst (λ (at : ℕ). seen.view at ≡ Some sight.block) (sym found.is.here) found.is.stands;
+      value = is looks.entries down.node.0.spells.node.rising looks.tells;
+    }
+
+module _ (old new : Seen) (root : ℕ) (key : List ℕ) (leaf : Leaf) (reads : OnlyRead old new) (sound : IsSound new) (held : HoldsLeaf new root key leaf) where
+  path : (store : Store) → Agrees store new → IsPath (laid old store) held.down.top root root_bounds held.steps key leaf.at.0 held.entries held.bounds
   path store agrees =
-      let l = Descends-laid old new store root key looks.steps 0 looks.at looks.bounds looks.entries reads sound agrees down in
-      (l.0, l.1, down.leads)
+      let l = Descends-laid old new store root key held.steps 0 leaf.at.0 held.bounds held.entries reads sound agrees held.down in
+      (l.0, l.1, held.down.leads)
 
   pub whole_leaf : IsWholePath root key old new
-  whole_leaf = λ store at agrees breaks. no_break (laid old store) down.top root looks.steps key looks.at looks.entries looks.bounds at (path store agrees) breaks
+  whole_leaf = λ store at agrees breaks. no_break (laid old store) held.down.top root held.steps key leaf.at.0 held.entries held.bounds at (path store agrees) breaks
 
-  module _ (store : Store) (content : Values) (agrees : Agrees store new) (holds : HasContent (laid old store) root content) where
-    content_is : find key_order key looks.entries ≡ map.get content key
-    content_is = leaf_find (laid old store) down.top root looks.steps key looks.at looks.entries looks.bounds content (path store agrees) holds key down.leads
-
-    rising : IsRising looks.entries
-    rising = down.node.0.spells.node.rising
-
-    finds : (found : Option Entry) → lookup.found ≡ found → Finds key looks.entries found lookup.next
-    finds found is = subst (λ (f : Option Entry). Finds key looks.entries f lookup.next) is looks.tells.finds
-
-    pub value_there : (e : Entry) → lookup.found ≡ Some e → e.0 ≡ key → Some e.1 ≡ map.get content key
-    value_there e is same = sym (found_equal key looks.entries e lookup.next rising (finds (Some e) is) same) ∙ content_is
-
-    pub value_elsewhere : (e : Entry) → lookup.found ≡ Some e → (e.0 ≡ key → ⊥) → None ≡ map.get content key
-    value_elsewhere e is other = sym (found_other key looks.entries e lookup.next rising (finds (Some e) is) other) ∙ content_is
-
-    pub value_nowhere : lookup.found ≡ None → None ≡ map.get content key
-    value_nowhere is = sym (find_above key looks.entries (finds None is).0) ∙ content_is
+  -- its value is the tree's
+  pub leaf_value : (store : Store) (content : Values) → Agrees store new → HasContent (laid old store) root content → leaf.value ≡ map.get content key
+  leaf_value store content agrees holds = held.value ∙ leaf_find (laid old store) held.down.top root held.steps key leaf.at.0 held.entries held.bounds content (path store agrees) holds key held.down.leads
 
 -- ---- a node in its place, by what is told of it
 

@@ -8,7 +8,7 @@ use Rattle.std.specs.declared.cmp.Ordering.{Ordering}
 use Rattle.std.specs.declared.cmp.Ordering.TheVariants.{Less, Equal, Greater}
 use Rattle.sea_base.specs.Name.{IsName}
 use Rattle.sea_base.specs.Space.{Store, Seen, IsKnown, IsSound, Agrees, laid, OnlyRead}
-use Rattle.sea_base.proofs.Spaces.{laid_known}
+use Rattle.sea_base.proofs.Spaces.{laid_known, only_read-trans, agrees_before}
 use Rattle.sea_node.specs.Entries.{Values, key_order}
 use Rattle.sea_node.specs.Node.{node_bytes}
 use Rattle.sea_node.proofs.Keys.{key_order_total, same_key}
@@ -16,12 +16,13 @@ use Rattle.sea_tree.specs.declared.fault.TreeFault.{TreeFault}
 use Rattle.sea_tree.specs.declared.fault.TreeFault.TheVariants.{Space, Broken}
 use Rattle.sea_tree.specs.Tree.{root_bounds, IsNodeOf}
 use Rattle.sea_tree.specs.Content.{HasContent}
-use Rattle.sea_tree.specs.Breaks.{Breaks, IsFull, FillsFewer}
+use Rattle.sea_tree.specs.Breaks.{Breaks, IsBreakOnPath, IsFull, FillsFewer}
 use Rattle.sea_base.specs.declared.space.SpaceFault.TheVariants.{NoMemory}
 use Rattle.sea_tree.specs.Calls.{Meets, Becomes, ChangesOwn, ChangeFootprint, ChangeFailure, IsPathFault, IsChangeFault, IsPlanFault, IsUnchanged, IsWholePath, IsOfSpace}
-use Rattle.sea_tree.specs.Reads.{ReadsPath, ReadsNear, ReadsNothing}
+use Rattle.sea_tree.specs.Form.{HasForm, Plans}
+use Rattle.sea_tree.specs.Reads.{IsOnPath, ReadsPath, ReadsNear, ReadsNothing}
 use Rattle.sea_tree.specs.declared.plan.Plan.{Plan}
-use Rattle.sea_tree.specs.Plan.{plan_changes, plan_fills}
+use Rattle.sea_tree.specs.Plan.{plan_changes, plan_fills, IsWritten}
 use Rattle.sea_tree.proofs.Nears.{run_near, path_near}
 use Rattle.sea_tree.proofs.Performing.{read_unchanged, unchanged_since, once_since, once_none, placed_none}
 use Rattle.sea_tree.specs.Does.{Change, overlaid, is_among, Does, ChangesAtMost, SplicesOnce}
@@ -188,13 +189,49 @@ path_fails root key old new reads fault cause = record {
   unchanged = read_unchanged (Does-read reads) fault;
 }
 
--- where nothing was planned
-pub plan_fails : (root : ℕ) (key : List ℕ) (old mid new : Seen) → OnlyRead old mid → IsWholePath root key old mid → (fault : TreeFault) → IsUnchanged mid new fault → IsPlanFault root mid new fault → ChangeFailure root key old new fault
-plan_fails root key old mid new reads whole fault same cause = record {
-  blames = fault_since root key old mid new reads whole fault same cause;
-  never_full = of_space root key old new fault (fault_since root key old mid new reads whole fault same cause);
-  unchanged = unchanged_since (Does-read reads) new fault same;
-}
+-- ---- a change by what is planned behind a lookup
+
+pub reads_path-then : (root : ℕ) (key : List ℕ) (old mid new : Seen) → OnlyRead old mid → OnlyRead mid new → ReadsPath root key old mid → ReadsPath root key mid new → ReadsPath root key old new
+reads_path-then root key old mid new first later was is at = elim (is at) [
+  | inl same ↦ elim (was at) [
+    | inl before ↦ inl (same ∙ before)
+    | inr on ↦ inr (λ store agrees. on store (agrees_before later agrees))
+  ]
+  | inr on ↦ inr (λ store agrees. subst (λ (s : Store). IsOnPath s key root at) (one_store first store) (on store agrees))
+]
+
+module _ (old mid planned new : Seen) (root : ℕ) (key : List ℕ) (value : Option (List ℕ)) (plan : Plan) (reads : OnlyRead old mid) (on_path : ReadsPath root key old mid) (plans : Plans root key value mid planned plan) (writes : Does (plan_changes plan) planned new) (next : new.next ≡ planned.next) where
+  run : Run old plans.read planned new (plan_changes plan)
+  run = record { reads = only_read-trans reads plans.reads; plans = plans.goes; writes = writes; next = next }
+
+  path_read : ReadsPath root key old plans.read
+  path_read = reads_path-then root key old mid plans.read reads plans.reads on_path plans.on_path
+
+  pub plan_agrees : (store : Store) → Agrees store new → Agrees store mid
+  plan_agrees store agrees = agrees_before plans.reads (run_agrees old plans.read planned new (plan_changes plan) run store agrees)
+
+  pub plan_form : IsWritten plan planned new → ReadsNothing planned new → HasForm root key value old new
+  plan_form written unread = record { read = plans.read; planned = planned; plan = plan; path = plans.path; reads = run.reads; on_path = path_read; known = plans.known; plans = plans.goes; rises = plans.rises; writes = writes; written = written; unread = unread; next = next }
+
+  pub plan_footprint : IsWholePath root key old mid → plan_fills plan ≤ 17 → ChangesAtMost (plan_fills plan) planned new → SplicesOnce 1091 planned new → ReadsNothing planned new → ChangeFootprint root key old new
+  plan_footprint whole le few once unread =
+      run_footprint root key old plans.read planned new plan run (λ store at agrees. whole store at (agrees_before plans.reads agrees)) path_read plans.near plans.own le few once unread
+
+  pub plan_becomes : (store : Store) (content : Values) → Meets store root old new content → Becomes store root old new (changed_content key value content)
+  plan_becomes store content meets = run_becomes root key value old plans.read planned new (plan_changes plan) run plans.planned store content meets
+
+change_since : (root : ℕ) (key : List ℕ) (old mid new : Seen) → OnlyRead old mid → (fault : TreeFault) → IsChangeFault root key mid new fault → IsChangeFault root key old new fault
+change_since root key old mid new reads (Space fault) cause = tt
+change_since root key old mid new reads (Broken at) (inl breaks) = inl (λ store agrees. subst (λ (s : Store). IsBreakOnPath s key root at.0) (one_store reads store) (breaks store agrees))
+change_since root key old mid new reads (Broken at) (inr found) = inr (
+  (λ store q agrees breaks. found.0 store q agrees (subst (λ (s : Store). IsBreakOnPath s key root q) (sym (one_store reads store)) breaks)),
+  (λ store agrees. subst (λ (s : Store). Breaks s root at.0 ⊎ ((at.0 ≡ root) × IsFull s root)) (one_store reads store) (found.1 store agrees)),
+)
+
+pub planned_fails : (root : ℕ) (key : List ℕ) (old mid new : Seen) → OnlyRead old mid → (fault : TreeFault) → IsUnchanged mid new fault → IsChangeFault root key mid new fault → ChangeFailure root key old new fault
+planned_fails root key old mid new reads fault same cause =
+    let blames = change_since root key old mid new reads fault cause in
+    record { blames = blames; never_full = of_space root key old new fault blames; unchanged = unchanged_since (Does-read reads) new fault same }
 
 -- where memory ran out
 pub memory_fails : (root : ℕ) (key : List ℕ) (old new : Seen) → ChangeFailure root key old new (Space NoMemory)

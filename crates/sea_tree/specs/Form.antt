@@ -1,10 +1,12 @@
 -- The form of a change of one pair: which nodes are written from the leaf up, where, and how.
-use Rattle.std.specs.Prelude.{◌≡◌, ◌⊎◌, ℕ, ◌+◌, List, [], ◌∷◌, ◌++◌, reverse, true, Option, Some, None, MatchOption}
+use Rattle.std.specs.Prelude.{◌≡◌, ◌⊎◌, ℕ, ◌+◌, ◌≤◌, List, [], ◌∷◌, ◌++◌, reverse, true, Option, Some, None, MatchOption}
 use Rattle.std.proofs.Common.{inl, inr}
 use Rattle.sea_base.specs.Space.{Seen, IsKnown, OnlyRead}
-use Rattle.sea_node.specs.declared.node.TheConstants.{FRONT_BYTES}
-use Rattle.sea_node.specs.Entries.{Entry, size, entries_before, entries_at, entry_put}
+use Rattle.sea_node.specs.declared.node.TheConstants.{FRONT_BYTES, ROOM_BYTES}
+use Rattle.sea_node.specs.Entries.{Entry, size, edited, entries_before, entries_at, entry_put}
 use Rattle.sea_node.specs.Node.{node_bytes}
+use Rattle.sea_base.specs.Splice.{spliced}
+use Rattle.sea_tree.specs.declared.place.TheConstants.{LEAST_BYTES}
 use Rattle.sea_tree.specs.declared.edit.Edit.{Edit}
 use Rattle.sea_tree.specs.declared.edit.Edit.TheVariants.{Pair, Moved}
 use Rattle.sea_tree.specs.declared.path.Step.{Step}
@@ -13,9 +15,9 @@ use Rattle.sea_tree.specs.declared.plan.Plan.{Plan}
 use Rattle.sea_tree.specs.declared.splice.Splice.{Splice}
 use Rattle.sea_tree.specs.Does.{Change, Does, is_among}
 use Rattle.sea_tree.specs.Mending.{after_edit}
-use Rattle.sea_tree.specs.Changing.{RootRebalanced}
+use Rattle.sea_tree.specs.Changing.{IsPlanned, TouchesOwn, RootRebalanced}
 use Rattle.sea_tree.specs.Plan.{plan_changes, IsWritten}
-use Rattle.sea_tree.specs.Reads.{ReadsPath, ReadsNothing}
+use Rattle.sea_tree.specs.Reads.{ReadsPath, ReadsNear, ReadsNothing}
 use Rattle.sea_tree.specs.Rebalanced.{Rebalanced}
 use Rattle.sea_tree.specs.Path.{IsKnownPath}
 
@@ -27,6 +29,18 @@ pub record IsSpliceOf (at : ℕ) (entries : List Entry) (key : List ℕ) (value 
   pub cut : splice.delta.cut ≡ FRONT_BYTES + size (entries_before key entries)
   pub gone : splice.delta.gone ≡ size (entries_at key entries)
   pub put : splice.delta.put ≡ entry_put key value
+
+-- A leaf keeps its place without its neighbours, and what is planned is the splice of its pair.
+pub record KeepsPlace (at : ℕ) (block : List ℕ) (entries : List Entry) (key : List ℕ)
+    (value : Option (List ℕ)) (plan : Plan) : Type 0 where
+  pub filled : LEAST_BYTES ≤ size (edited key value entries)
+  pub room : size (edited key value entries) ≤ ROOM_BYTES
+  pub writes : plan.writes ≡ []
+  pub splice : Splice
+  pub planned : plan.splice ≡ Some splice
+  pub of_pair : IsSpliceOf at entries key value splice
+  pub edited_block : splice.block ≡ node_bytes 0 (edited key value entries)
+  pub makes : spliced splice.delta.cut splice.delta.gone splice.delta.put block ≡ splice.block
 
 -- How a node that keeps its place is written: by the splice of its pair, unless something is
 -- written there before, which only a space that gives a filled address leads to; and whole, where a
@@ -62,6 +76,22 @@ Rises (step ∷ steps) level at entries edit now end before done splice =
     (λ next.
     Rises steps step.node.level step.at.0 step.node.entries next mid end
     (added ++ before) done splice)
+
+-- What is planned of a change of a pair, and what was read for it: the path to the leaf that the key
+-- leads to, and neighbours of its nodes.
+pub record Plans (root : ℕ) (key : List ℕ) (value : Option (List ℕ)) (old new : Seen)
+    (plan : Plan) : Type 0 where
+  pub read : Seen
+  pub path : Path
+  pub reads : OnlyRead old read
+  pub on_path : ReadsPath root key old read
+  pub known : IsKnownPath read root key path
+  pub goes : Does [] read new
+  pub near : ReadsNear root key read new
+  pub rises : Rises (reverse path.steps.items) 0 path.at.0 path.leaf.entries
+      (Pair key value) read new [] (plan_changes plan) plan.splice
+  pub planned : IsPlanned root key value read new (plan_changes plan)
+  pub own : TouchesOwn root read new (plan_changes plan)
 
 -- What a change of a pair has read and written: the path to the leaf that the key leads to, and
 -- then from there up to the root.

@@ -3,25 +3,26 @@ ghost use Rattle.std.specs.Prelude.{◌≡◌, ◌≤◌, ◌<◌, ◌+◌, ◌^
 ghost use Rattle.std.specs.Option.{option_copied};
 ghost use Rattle.std.specs.FinMap as map;
 ghost use Rattle.sea_base.specs.Space.{Store, OnlyRead};
-ghost use Rattle.std.specs.FinMap.Entries.{find};
-ghost use Rattle.sea_node.specs.Entries.{Values, key_order, edited};
+ghost use Rattle.sea_node.specs.Entries.{Values};
 ghost use Rattle.sea_node.specs.Node.{node_bytes};
 ghost use Rattle.sea_tree.specs.Does.{Does};
 ghost use Rattle.sea_tree.specs.Plan.{plan_changes, plan_fills, CanSplice};
 ghost use Rattle.sea_tree.specs.Reads.{ReadsNear};
 ghost use Rattle.sea_tree.specs.declared.edit.Edit.TheVariants.{Pair};
+ghost use Rattle.sea_tree.specs.Lookup.{HoldsLeaf};
 ghost use Rattle.sea_tree.specs.Path.{IsKnownPath};
-ghost use Rattle.sea_tree.specs.Form.{Rises, HasForm, HasFirst};
+ghost use Rattle.sea_tree.specs.Form.{Rises, HasForm, HasFirst, Plans};
 ghost use Rattle.sea_tree.specs.Changing.{IsPlanned, TouchesOwn};
-ghost use Rattle.sea_tree.specs.Calls.{Meets, Becomes, ChangeFootprint, ChangeFailure, IsPlanFault, IsUnchanged};
+ghost use Rattle.sea_tree.specs.Calls.{Meets, Becomes, ChangeFootprint, ChangeFailure, IsChangeFault, IsPlanFault, IsUnchanged};
 ghost use Rattle.sea_base.specs.Ghosts.{IsReady, IsCall};
 ghost use Rattle.sea_tree.specs.Calls.{space_fault};
 
 use crate::TreeFault;
 use crate::edit::Edit;
+use crate::leaf::Leaf;
+use crate::lookup::look_up;
 use crate::path::{Path, path_to};
 use crate::plan::{CHANGED_BLOCKS, Plan, perform, plan_node};
-use crate::reading::value_of;
 use crate::rebalancing::rebalance;
 use crate::rooting::rebalance_root;
 use sea_base::{Data, Duplicate, Key, Laddr, NoMemory, Pairs, Space};
@@ -57,14 +58,14 @@ pub fn put<S: Space>(
 {
     // The bytes of a key are a name.
     prove!(!key.bytes().is_empty());
-    let Some(path) = path_to(alloc, space, root, key)? else {
+    let Some(leaf) = look_up(space, root, key)? else {
         let plan = planted(alloc, root, key, value)?;
         perform(space, plan)?;
         return Ok(None);
     };
-    let old = copy_of(&path.leaf, key)?;
-    let plan = mended(alloc, space, root, path, key, Some(value))?;
+    let plan = planned(alloc, space, root, &leaf, key, Some(value))?;
     perform(space, plan)?;
+    let Leaf { value: old, .. } = leaf;
     Ok(old)
 }
 
@@ -93,25 +94,16 @@ pub fn del<S: Space>(
         × ((S.seen space.new).next < (S.seen space.old).next + 2 ^ 20) }
     ensures call { IsCall S.Space space.old space.new (space_fault result) }
 {
-    let Some(path) = path_to(alloc, space, root, key)? else {
+    let Some(leaf) = look_up(space, root, key)? else {
         return Ok(None);
     };
-    let Some(old) = copy_of(&path.leaf, key)? else {
+    if leaf.value.is_none() {
         return Ok(None);
-    };
-    let plan = mended(alloc, space, root, path, key, None)?;
-    perform(space, plan)?;
-    Ok(Some(old))
-}
-
-// A copy of the value that a node has under a key.
-fn copy_of(node: &Node, key: &Key) -> Result<Option<Data>, NoMemory>
-    ensures { IfOk result (λ found. found ≡ find key_order key.now node.now.entries) }
-{
-    match value_of(node, key) {
-        Some(value) => Ok(Some(value.copy()?)),
-        None => Ok(None),
     }
+    let plan = planned(alloc, space, root, &leaf, key, None)?;
+    perform(space, plan)?;
+    let Leaf { value: old, .. } = leaf;
+    Ok(old)
 }
 
 // What is to be written for the first pair of a tree.
@@ -127,6 +119,42 @@ fn planted(alloc: Global, root: Laddr, key: &Key, value: &Data) -> Result<Plan, 
     let leaf = Node { level: 0, entries };
     let mut plan = Plan::new(alloc);
     plan_node(alloc, &mut plan.writes, root, &leaf)?;
+    Ok(plan)
+}
+
+// What is to be written where a pair of the leaf that its key leads to comes, goes or has another
+// value. The path is read as nodes only where the leaf has to be rebalanced.
+fn planned<S: Space>(
+    alloc: Global,
+    space: &mut S,
+    root: Laddr,
+    leaf: &Leaf,
+    key: &Key,
+    value: Option<&Data>,
+) -> Result<Plan, TreeFault>
+    requires ready { IsReady S.Space space.old }
+    requires room { (S.seen space.old).next < 2 ^ 62 + 2 ^ 46 }
+    requires value { IfSome (option_copied value) (λ v. length v ≤ VALUE_BYTES) }
+    requires leaf { HoldsLeaf (S.seen space.old) root.0 key.now leaf.now }
+    ensures plans { IfOk result (Plans root.0 key.now (option_copied value.entry)
+        (S.seen space.old) (S.seen space.new)) }
+    ensures few { IfOk result (λ plan. plan_fills plan ≤ CHANGED_BLOCKS) }
+    ensures spliced { IfOk result (CanSplice (S.seen space.new)) }
+    ensures fault { IfErr result (IsChangeFault root.0 key.now (S.seen space.old) (S.seen space.new)) }
+    ensures unchanged { IfErr result (IsUnchanged (S.seen space.old) (S.seen space.new)) }
+    ensures rises { (S.seen space.old).next ≤ (S.seen space.new).next }
+    ensures next { (S.seen space.new).next ≤ (S.seen space.old).next + 9 }
+    ensures call { IsCall S.Space space.old space.new (space_fault result) }
+{
+    // The bytes of a key are a name.
+    prove!(!key.bytes().is_empty());
+    if let Some(plan) = leaf.kept(alloc, key, value)? {
+        return Ok(plan);
+    }
+    let Some(path) = path_to(alloc, space, root, key)? else {
+        unreachable!();
+    };
+    let plan = mended(alloc, space, root, path, key, value)?;
     Ok(plan)
 }
 

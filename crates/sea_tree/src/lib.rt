@@ -5,6 +5,7 @@ mod changing;
 mod cut;
 mod edit;
 mod fault;
+mod leaf;
 mod lookup;
 mod neighbours;
 mod path;

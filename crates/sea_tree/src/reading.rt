@@ -2,9 +2,8 @@
 ghost use Rattle.std.specs.Prelude.{◌≡◌, ◌≤◌, ◌++◌, ◌∷◌, [], IfOk, IfErr, OnOk, IsTrue, take, length};
 ghost use Rattle.std.specs.Option.{option_copied, unwrap_or};
 ghost use Rattle.std.specs.FinMap as map;
-ghost use Rattle.std.specs.FinMap.Entries.{find};
 ghost use Rattle.sea_base.specs.Space.{Store, OnlyRead};
-ghost use Rattle.sea_node.specs.Entries.{Values, key_order};
+ghost use Rattle.sea_node.specs.Entries.{Values};
 ghost use Rattle.sea_tree.specs.Calls.{Meets, pairs_above, IsPathFault, IsRangeFault, WalksWhole, IsWholePath};
 ghost use Rattle.sea_tree.specs.Reads.{ReadsPath, ReadsRange};
 ghost use Rattle.sea_tree.specs.Range.{is_above, entries_above};
@@ -12,11 +11,12 @@ ghost use Rattle.sea_base.specs.Ghosts.{IsReady, IsCall};
 ghost use Rattle.sea_tree.specs.Calls.{space_fault};
 
 use crate::TreeFault;
+use crate::leaf::Leaf;
 use crate::lookup::look_up;
 use crate::path::{path_after, path_to};
 use crate::place::Bounds;
 use sea_base::{Data, Duplicate, Key, Laddr, NoMemory, Pairs, Space};
-use sea_node::{Lookup, Node};
+use sea_node::Node;
 use std::alloc::Global;
 
 /// The value under a key.
@@ -32,27 +32,11 @@ pub fn get<S: Space>(space: &mut S, root: Laddr, key: &Key) -> Result<Option<Dat
     ensures reads { OnlyRead (S.seen space.old) (S.seen space.new) }
     ensures call { IsCall S.Space space.old space.new (space_fault result) }
 {
-    let Some(lookup) = look_up(space, root, key)? else {
+    let Some(leaf) = look_up(space, root, key)? else {
         return Ok(None);
     };
-    let Lookup { found, .. } = lookup;
-    match found {
-        Some((at, value)) if at == *key => Ok(Some(value)),
-        _ => Ok(None),
-    }
-}
-
-/// The value that a node has under a key.
-pub(crate) fn value_of<'a>(node: &'a Node, key: &Key) -> Option<&'a Data>
-    ensures { option_copied result ≡ find key_order key.now node.now.entries }
-{
-    let entries = node.entries.items();
-    for (at, value) in entries {
-        if at == key {
-            return Some(value);
-        }
-    }
-    None
+    let Leaf { value, .. } = leaf;
+    Ok(value)
 }
 
 /// The first `limit` pairs with keys above a bound, or with none all keys. A leaf is read only

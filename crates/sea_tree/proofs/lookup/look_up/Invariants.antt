@@ -2,12 +2,12 @@ use Rattle.sea_base.specs.Ghosts.{IsCall}
 use Rattle.std.proofs.Common.{None}
 use Rattle.sea_base.specs.Space.{IsKnown, OnlyRead}
 use Rattle.sea_tree.specs.Reads.{ReadsPath}
-use Rattle.sea_tree.specs.Lookup.{LooksDown}
+use Rattle.sea_tree.specs.Lookup.{IsFound}
 use Rattle.sea_tree.proofs.lookup.look_up.Given as goal
 
 abbrev pub invariant-down : goal.invariant-down
 invariant-down g l = record {
-  down : LooksDown (g.S.Space.seen l.space) l.fn.root.0 l.key l.upper l.lookup;
+  down : IsFound (g.S.Space.seen l.space) l.fn.root.0 l.key l.upper l.sight;
   root : IsKnown (g.S.Space.seen l.space) l.fn.root.0;
   within : ReadsPath l.fn.root.0 l.fn.key (g.S.Space.seen l.fn.space) (g.S.Space.seen l.space);
   reads : OnlyRead (g.S.Space.seen l.fn.space) (g.S.Space.seen l.space);
@@ -15,4 +15,4 @@ invariant-down g l = record {
 }
 
 abbrev pub decreases-down : goal.decreases-down
-decreases-down g l = l.lookup.level
+decreases-down g l = l.sight.lookup.level
