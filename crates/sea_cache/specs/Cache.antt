@@ -1,7 +1,8 @@
 -- What a cache holds, and what its calls make of that.
 use Rattle.std.specs.Borrow.{Fml, MutBor, follows_so}
 use mathlib.Core.Option.{none}
-use Rattle.std.specs.Prelude.{◌≡◌, ◌≢◌, ℕ, List, ◌∷◌, take, Option, is_some, if◌then◌else◌, ◌-◌, nat_eq, ⊤}
+use Rattle.std.specs.Prelude.{◌≡◌, ◌≢◌, ℕ, List, ◌∷◌, take, Option, is_some, if◌then◌else◌, ◌-◌}
+use Rattle.std.specs.Prelude.{nat_eq, ⊤}
 use Rattle.std.specs.Ordering.{nat_cmp}
 use Rattle.std.specs.BTreeMap.{get}
 use Rattle.std.specs.Map.{lookup, remove_entry}
@@ -41,8 +42,8 @@ without clean at = remove_entry (nat_eq at) clean
 abbrev pub used : Clean → ℕ → Clean
 used clean at = option_map_or (λ block. (at, block) ∷ without clean at) (block_at clean at) clean
 
--- a block is put first, in the stead of an older one of its place; where there was none, the last of
--- a full cache goes
+-- a block is put first, in the stead of an older one of its place; where there was none, the last
+-- of a full cache goes
 abbrev pub kept : Clean → ℕ → ℕ → List ℕ → Clean
 kept clean limit at block =
     (at, block) ∷ (if is_some (block_at clean at) then without clean at else take (limit - 1) clean)

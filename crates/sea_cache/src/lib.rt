@@ -2,7 +2,8 @@
 //! their places, of which the last used stay.
 #![tactic(auto)]
 
-ghost use Rattle.std.specs.Prelude.{◌≡◌, ℕ, ◌≤◌, [], None, IfOk, OnOk, OnErr, option_map, option_copied, length};
+ghost use Rattle.std.specs.Prelude.{◌≡◌, ℕ, ◌≤◌, [], None, IfOk, OnOk, OnErr, option_map};
+ghost use Rattle.std.specs.Prelude.{option_copied, length};
 
 use lru::LruCache;
 use sea_base::{Block, Commit, Laddr, NoMemory, Paddr};
@@ -20,7 +21,8 @@ pub struct Cache {
 
 impl Cache {
     ghost use Rattle.std.specs.Borrow.{sem};
-    ghost use Rattle.sea_cache.specs.Cache.{Pins, Cleans, CleansOnce, pinned_of, clean_of, limit_of, block_at, without, used, kept};
+    ghost use Rattle.sea_cache.specs.Cache.{Pins, Cleans, CleansOnce, pinned_of, clean_of};
+    ghost use Rattle.sea_cache.specs.Cache.{limit_of, block_at, without, used, kept};
 
     /// An empty cache for at most `limit` clean blocks, which is 1 or more.
     pub fn new(alloc: Global, limit: u32) -> Result<Cache, NoMemory>
@@ -79,10 +81,11 @@ impl Cache {
         self.clean.len()
     }
 
-    /// Keeps a clean block for a place, in the place of an older one, as the last used. Of more than
-    /// the limit the one goes that was not used for the longest time.
+    /// Keeps a clean block for a place, in the stead of an older one, as the last used. Of more
+    /// than the limit the one goes that was not used for the longest time.
     pub fn keep(&mut self, at: Paddr, block: Block) -> Result<(), NoMemory>
-        ensures ok { OnOk result (Cleans (kept (clean_of self.old) (limit_of self.old) at.0 block) self.old self.new) }
+        ensures ok { OnOk result (Cleans (kept (clean_of self.old) (limit_of self.old) at.0 block)
+            self.old self.new) }
         ensures err { OnErr result (Cleans (clean_of self.old) self.old self.new) }
     {
         self.clean.put(at.0, block)?;

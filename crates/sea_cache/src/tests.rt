@@ -10,7 +10,8 @@ fn filled(alloc: Global, byte: u8) -> Result<Block, NoMemory> {
     Block::new(alloc, &[byte; 4096])
 }
 
-// A cache as a plain list: what is clean by place, the last used first, each block by its first byte.
+// A cache as a plain list: what is clean by place, the last used first, each block by its first
+// byte.
 #[derive(Drop)]
 struct Plain {
     clean: Vec<(u32, u8)>,
@@ -106,6 +107,63 @@ fn pinned_blocks_stay_until_they_are_unpinned(rt: HostRuntime) -> Result<(), Fai
             _ => Some((Some((at % 251) as u8), Commit(at + 1))),
         };
         assert_eq!(rt; found, expected);
+    }
+    Ok(())
+}
+
+// What is pinned as a plain list, in no order: addresses with the first bytes of their blocks, and
+// versions.
+#[derive(Drop)]
+struct Pins {
+    list: Vec<(u64, u8, u64)>,
+}
+
+impl Pins {
+    fn put(&mut self, at: u64, byte: u8, version: u64) -> Result<(), Fail> {
+        self.drop_at(at);
+        self.list.push((at, byte, version))?;
+        Ok(())
+    }
+
+    fn drop_at(&mut self, at: u64) {
+        self.list.retain(|entry| entry.0 != at);
+    }
+
+    fn find(&self, at: u64) -> Option<(u8, u64)> {
+        let entry = self.list.iter().find(|entry| entry.0 == at)?;
+        Some((entry.1, entry.2))
+    }
+}
+
+fn byte_and_version(found: Option<(&Block, Commit)>) -> Option<(u8, u64)> {
+    let (block, version) = found?;
+    Some((first_byte(Some(block))?, version.0))
+}
+
+#[test]
+fn pinned_blocks_are_those_of_a_plain_list(rt: HostRuntime) -> Result<(), Fail> {
+    let alloc = rt.alloc();
+    let mut state = 11;
+    let mut cache = Cache::new(alloc, 1)?;
+    let mut pins = Pins {
+        list: Vec::new(alloc),
+    };
+    for version in 1..4000u64 {
+        let at = drawn(&mut state, 50);
+        let byte = drawn(&mut state, 256) as u8;
+        match drawn(&mut state, 6) {
+            0 | 1 => {
+                cache.pin(Laddr(at), filled(alloc, byte)?, Commit(version))?;
+                pins.put(at, byte, version)?;
+            }
+            2 => {
+                cache.unpin(Laddr(at));
+                pins.drop_at(at);
+            }
+            // clean blocks have nothing to do with it
+            3 => cache.keep(Paddr(at as u32), filled(alloc, byte)?)?,
+            _ => assert_eq!(rt; byte_and_version(cache.pinned(Laddr(at))), pins.find(at)),
+        }
     }
     Ok(())
 }
