@@ -21,10 +21,11 @@ impl Kept {
     }
 }
 
-/// Blocks in memory, from place 0 on. They aren't told, so that tests may lay any block anywhere.
+/// Blocks in memory, from place 0 on, but for those that were dropped. They aren't told, so that
+/// tests may lay any block anywhere.
 #[derive(Drop)]
 pub struct MemBlocks {
-    blocks: Vec<Kept>,
+    blocks: Vec<Option<Kept>>,
     fails: Option<Paddr>,
     faults: u64,
 }
@@ -56,8 +57,15 @@ impl MemBlocks {
 
     /// Lays a block behind the others.
     pub fn lay(&mut self, block: Block) -> Result<(), NoMemory> {
-        self.blocks.push(Kept::new(block))?;
+        self.blocks.push(Some(Kept::new(block)))?;
         Ok(())
+    }
+
+    /// Drops the block at this place. From now on a read of it fails.
+    pub fn drop_at(&mut self, at: Paddr) {
+        if let Some(kept) = self.blocks.get_mut(at.0 as usize) {
+            *kept = None;
+        }
     }
 }
 
@@ -72,7 +80,7 @@ impl Blocks for MemBlocks {
             self.faults = self.faults.saturating_add(1);
             return Err(SpaceFault::DeviceFault);
         }
-        let Some(kept) = self.blocks.get(at.0 as usize) else {
+        let Some(Some(kept)) = self.blocks.get(at.0 as usize) else {
             self.faults = self.faults.saturating_add(1);
             return Err(SpaceFault::DeviceFault);
         };

@@ -109,7 +109,7 @@ impl MapTree {
         Ok(Paddr(place as u32))
     }
 
-    // Lays the fresh nodes, under their root.
+    // Lays the fresh nodes, under their root, and drops the dead ones.
     fn take_in(&mut self, fresh: Fresh) -> Result<Change, TrialFault>
         requires { fresh.root.height ≤ 8 }
     {
@@ -120,9 +120,10 @@ impl MapTree {
         for block in nodes {
             self.blocks.lay(block)?;
         }
-        Ok(Change {
-            fresh: count,
-            dead: dead.into_vec(),
-        })
+        let dead = dead.into_vec();
+        for at in &dead {
+            self.blocks.drop_at(*at);
+        }
+        Ok(Change { fresh: count, dead })
     }
 }
