@@ -1,0 +1,10 @@
+pub mod Bytes
+pub mod Contents
+pub mod Edits
+pub mod Examples
+pub mod Finals
+pub mod Footprints
+pub mod Loops
+pub mod Parts
+pub mod Patches
+pub mod Taking
