@@ -1,3 +1,15 @@
+pub mod Arguments
+pub mod Asking
+pub mod Events
+pub mod Exclusive
+pub mod Lines
+pub mod Numbers
+pub mod Operations
+pub mod Plans
 pub mod Rendering
+pub mod Rows
+pub mod Scripts
 pub mod Spelling
+pub mod Splits
+pub mod Unique
 pub mod Words

@@ -1,4 +1,5 @@
 use super::*;
+use crate::word::name_of;
 use sea_base::{Names, Pairs};
 use sea_object::Items;
 use std::test::Fail;
@@ -94,5 +95,21 @@ fn a_name_of_every_byte_is_printed(rt: HostRuntime) -> Result<(), Fail> {
         }
     }
     assert_eq!(rt; text.as_str(), expected.as_str());
+    Ok(())
+}
+
+#[test]
+fn a_name_of_every_byte_is_read_again(rt: HostRuntime) -> Result<(), Fail> {
+    let alloc = rt.alloc();
+    for first in [0u8, 64, 128, 192] {
+        let mut bytes = Vec::new(alloc);
+        for more in 0..64u8 {
+            bytes.push(first.wrapping_add(more))?;
+        }
+        let mut text = String::new(alloc);
+        push_name(&mut text, &bytes)?;
+        let name = name_of(alloc, text.as_bytes())?;
+        assert_eq!(rt; name.bytes(), bytes.as_slice());
+    }
     Ok(())
 }

@@ -1,0 +1,13 @@
+use Rattle.std.proofs.Common.{◌≡◌, ◌∷◌, ◌++◌, length}
+use Rattle.std.specs.List.{flat_map}
+use Rattle.sea_script.specs.Word.{AreBytes, pair_text}
+use Rattle.sea_script.proofs.word.data_of.Given as goal
+
+abbrev pub invariant-loop-rest : goal.invariant-loop-rest
+invariant-loop-rest l = record {
+  bytes : AreBytes l.bytes.items;
+  read : l.word ≡ 120 ∷ (flat_map pair_text l.bytes.items ++ l.rest);
+}
+
+abbrev pub decreases-loop-rest : goal.decreases-loop-rest
+decreases-loop-rest l = length l.rest
