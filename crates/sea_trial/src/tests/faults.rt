@@ -1,9 +1,10 @@
-use super::{del_letter, filled, put_letters, repeated};
+use super::{bytes_at, del_letter, empty_tree, filled, put_letter, put_letters, repeated};
 use crate::fault::TrialFault;
 use crate::map_tree::MapTree;
-use sea_base::{Nths, SpaceFault};
+use sea_base::{Laddr, Nths, SpaceFault};
 use sea_tree::TreeFault;
 use std::alloc::Global;
+use std::process::Abort;
 
 const FAILED: TrialFault = TrialFault::Tree(TreeFault::Space(SpaceFault::DeviceFault));
 
@@ -52,32 +53,75 @@ fn read_all(alloc: Global, tree: &mut MapTree) -> Result<(), TrialFault> {
     Ok(())
 }
 
-// Makes a tree of two leaves, reads it, makes one leaf of them and drops that. One get will fail.
-fn calls(alloc: Global, nth: u64) -> Result<(), TrialFault> {
-    let mut fails = Nths::new(alloc);
-    fails.push(nth)?;
-    let mut tree = MapTree::new(alloc, fails);
-    put_letters(alloc, &mut tree, b"abcd")?;
-    read_all(alloc, &mut tree)?;
-    del_letter(alloc, &mut tree, b'a')?;
-    del_letter(alloc, &mut tree, b'b')?;
-    tree.drop_all()
+// Makes a call on a tree: a put, a del, a drop of all, or the calls that read it.
+fn make_call(alloc: Global, tree: &mut MapTree, call: u8) -> Result<(), TrialFault> {
+    match call {
+        0 => {
+            put_letter(alloc, tree, b'f', 1024)?;
+        }
+        1 => {
+            del_letter(alloc, tree, b'b')?;
+        }
+        2 => tree.drop_all()?,
+        _ => read_all(alloc, tree)?,
+    }
+    Ok(())
 }
 
-// The first get, counted from 1, whose failure is not answered.
-fn first_good(alloc: Global) -> u64 {
-    for nth in 1..100 {
-        if calls(alloc, nth) != Err(FAILED) {
-            return nth;
+// Makes a tree of two leaves, of which the one splits with one more pair, and the other merges without
+// its own.
+fn fill(alloc: Global, tree: &mut MapTree) -> Result<(), TrialFault> {
+    put_letters(alloc, tree, b"abcde")?;
+    del_letter(alloc, tree, b'a')?;
+    Ok(())
+}
+
+// Whether the same blocks stand in two trees.
+fn are_same(alloc: Global, one: &mut MapTree, other: &mut MapTree) -> Result<bool, TrialFault> {
+    for at in 1..6 {
+        if bytes_at(alloc, one, Laddr(at))? != bytes_at(alloc, other, Laddr(at))? {
+            return Ok(false);
         }
     }
-    100
+    Ok(true)
+}
+
+// Makes a call on such a tree, whose get with this number fails, and tells whether that get
+// was made. The fault is answered, and after that of the call the tree stands as before.
+fn fails(rt: &impl Abort, alloc: Global, call: u8, nth: u64) -> Result<bool, TrialFault> {
+    let mut gets = Nths::new(alloc);
+    gets.push(nth)?;
+    let mut tree = MapTree::new(alloc, gets);
+    if let Err(fault) = fill(alloc, &mut tree) {
+        assert!(rt; fault == FAILED);
+        return Ok(true);
+    }
+    let Err(fault) = make_call(alloc, &mut tree, call) else {
+        return Ok(false);
+    };
+    assert!(rt; fault == FAILED);
+    let mut whole = empty_tree(alloc);
+    fill(alloc, &mut whole)?;
+    assert!(rt; are_same(alloc, &mut tree, &mut whole)?);
+    Ok(true)
+}
+
+// The first get, counted from 1, that a call no longer makes.
+fn first_good(rt: &impl Abort, alloc: Global, call: u8) -> Result<u64, TrialFault> {
+    for nth in 1..100 {
+        if !fails(rt, alloc, call, nth)? {
+            return Ok(nth);
+        }
+    }
+    Ok(100)
 }
 
 #[test]
-fn a_fault_is_answered_wherever_a_get_fails(rt: HostRuntime) {
+fn a_failed_get_leaves_the_tree_as_it_was(rt: HostRuntime) -> Result<(), TrialFault> {
     let alloc = rt.alloc();
-    let good = first_good(alloc);
-    assert!(rt; good > 15);
-    assert!(rt; calls(alloc, good) == Ok(()));
+    for call in 0..4 {
+        let good = first_good(&rt, alloc, call)?;
+        assert!(rt; good > 11 && good < 100);
+    }
+    Ok(())
 }

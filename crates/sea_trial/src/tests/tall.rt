@@ -1,6 +1,7 @@
-use super::filled;
 use super::twin::Twin;
+use super::{empty_tree, filled};
 use crate::fault::TrialFault;
+use crate::map_tree::MapTree;
 use sea_base::Key;
 use std::alloc::Global;
 use std::process::Abort;
@@ -62,4 +63,27 @@ fn long_pairs_make_a_tall_tree(rt: HostRuntime) -> Result<(), TrialFault> {
     shrink(&rt, alloc, &mut twin)?;
     assert!(rt; twin.list().pairs().is_empty());
     twin.check(&rt)
+}
+
+// A tree of four levels.
+fn tall_tree(alloc: Global) -> Result<MapTree, TrialFault> {
+    let mut tree = empty_tree(alloc);
+    let value = filled(alloc, 7, 1024)?;
+    for number in 0..PAIRS {
+        tree.put(&digits(alloc, number, 1237)?, &value)?;
+    }
+    Ok(tree)
+}
+
+#[test]
+fn each_call_is_made_of_a_tall_tree(rt: HostRuntime) -> Result<(), TrialFault> {
+    let alloc = rt.alloc();
+    let mut tree = tall_tree(alloc)?;
+    assert!(rt; tree.level()? == 3 && tree.check()?.pairs == PAIRS);
+    let key = digits(alloc, 2026, 1237)?;
+    assert!(rt; tree.get(&key)?.is_some() && tree.range(None, 5000)?.items().len() == 4000);
+    assert!(rt; tree.del(&key)?.is_some() && tree.get(&key)?.is_none());
+    tree.drop_all()?;
+    assert!(rt; tree.check()?.nodes == 0);
+    Ok(())
 }
