@@ -77,8 +77,8 @@ Rises (step ∷ steps) level at entries edit now end before done splice =
     Rises steps step.node.level step.at.0 step.node.entries next mid end
     (added ++ before) done splice)
 
--- What is planned of a change of a pair, and what was read for it: the path to the leaf that the key
--- leads to, and neighbours of its nodes.
+-- What is planned of a change of a pair, and what was read for it: the path to the leaf that the
+-- key leads to, and neighbours of its nodes.
 pub record Plans (root : ℕ) (key : List ℕ) (value : Option (List ℕ)) (old new : Seen)
     (plan : Plan) : Type 0 where
   pub read : Seen

@@ -34,7 +34,8 @@ pub record IsFound (seen : Seen) (root : ℕ) (key : List ℕ) (upper : Option (
   pub looks : LooksDown seen root key upper sight.lookup
   pub is : IsSeen seen looks.at sight
 
--- A leaf in hand is the one that the key leads to: its address, its block, and its value of the key.
+-- A leaf in hand is the one that the key leads to: its address, its block, and the value that it
+-- has under the key.
 pub record HoldsLeaf (seen : Seen) (root : ℕ) (key : List ℕ) (leaf : Leaf) : Type 0 where
   pub steps : List Step
   pub bounds : Bounds

@@ -140,7 +140,8 @@ fn planned<S: Space>(
         (S.seen space.old) (S.seen space.new)) }
     ensures few { IfOk result (λ plan. plan_fills plan ≤ CHANGED_BLOCKS) }
     ensures spliced { IfOk result (CanSplice (S.seen space.new)) }
-    ensures fault { IfErr result (IsChangeFault root.0 key.now (S.seen space.old) (S.seen space.new)) }
+    ensures fault { IfErr result
+        (IsChangeFault root.0 key.now (S.seen space.old) (S.seen space.new)) }
     ensures unchanged { IfErr result (IsUnchanged (S.seen space.old) (S.seen space.new)) }
     ensures rises { (S.seen space.old).next ≤ (S.seen space.new).next }
     ensures next { (S.seen space.new).next ≤ (S.seen space.old).next + 9 }

@@ -25,9 +25,9 @@ pub(crate) struct Leaf {
 }
 
 impl Leaf {
-    /// What is to be written of the leaf where it keeps its place with the key's pair put or removed:
-    /// the splice of its block. There is nothing where it has to be rebalanced, and a root with few
-    /// bytes of entries is left to that as well.
+    /// What is to be written of the leaf where it keeps its place with the key's pair put or
+    /// removed: the splice of its block. There is nothing where it has to be rebalanced, and a root
+    /// with few bytes of entries is left to that as well.
     pub fn kept(
         &self,
         alloc: Global,

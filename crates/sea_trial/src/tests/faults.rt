@@ -68,8 +68,8 @@ fn make_call(alloc: Global, tree: &mut MapTree, call: u8) -> Result<(), TrialFau
     Ok(())
 }
 
-// Makes a tree of two leaves, of which the one splits with one more pair, and the other merges without
-// its own.
+// Makes a tree of two leaves, of which the one splits with one more pair, and the other merges
+// without its own.
 fn fill(alloc: Global, tree: &mut MapTree) -> Result<(), TrialFault> {
     put_letters(alloc, tree, b"abcde")?;
     del_letter(alloc, tree, b'a')?;
