@@ -1,6 +1,7 @@
 pub mod Arguments
 pub mod Asking
 pub mod Events
+pub mod Examples
 pub mod Exclusive
 pub mod Lines
 pub mod Numbers
