@@ -3,3 +3,9 @@ pub mod Blanks
 pub mod FreshTrails
 pub mod Overlays
 pub mod Tears
+pub mod Rows
+pub mod Afters
+pub mod Pasts
+pub mod Queues
+pub mod Journals
+pub mod Trials

@@ -1,3 +1,10 @@
 pub mod Changes
+pub mod Journal
+pub mod Laws
+pub mod Links
+pub mod Log
 pub mod Mkfs
+pub mod Padding
+pub mod Queue
+pub mod Resume
 pub mod Room

@@ -1,14 +1,23 @@
 //! The journal of a store: records one behind the other, in segments of a device.
 #![tactic(auto)]
 
+mod fit;
 mod fresh;
 mod fronts;
+mod journal;
+mod law;
 mod put;
+mod queue;
 mod room;
 
+pub use fit::can_resume;
 pub use fresh::{MkfsFault, mkfs};
+pub use journal::{Journal, ResumeFault};
+pub use law::journal_laws;
 pub use room::{Who, takes};
 
+#[cfg(test)]
+mod journal_tests;
 #[cfg(test)]
 mod tests;
 

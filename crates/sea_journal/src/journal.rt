@@ -1,0 +1,231 @@
+//! The journal of a store over a device.
+ghost use Rattle.std.specs.Prelude.{◌≡◌, ◌≤◌, IfOk};
+ghost use Rattle.sea_trail.specs.Trail.{segment_end as end_of};
+ghost use Rattle.sea_journal.specs.Resume.{mount_body};
+
+use crate::queue::Queue;
+use sea_base::{Commit, Data, NoMemory, Root, Sequence, Tail};
+use sea_device::{Device, Failed};
+use sea_record::{Body, Kind};
+use sea_segment::Table;
+use sea_trail::Trail;
+use std::alloc::Global;
+use thiserror::Error;
+
+/// Why a journal did not begin.
+#[derive(Clone, Copy, Debug, PartialEq, Eq, Error)]
+pub enum ResumeFault {
+    /// Memory ran out.
+    #[error("no memory")]
+    NoMemory,
+    /// A call of the device failed.
+    #[error("device fault")]
+    DeviceFault,
+}
+
+/// A journal: records go one behind the other into the open segment of a device. They are queued by
+/// `push`, and written and made stable by `sync`.
+#[derive(Debug, Drop)]
+pub struct Journal<D: Device> {
+    device: D,
+    table: Table,
+    queue: Queue,
+    ghost room: { end_of queue.active ≤ D.size device },
+}
+
+impl<D: Device> Journal<D> {
+    ghost use Rattle.std.specs.Prelude.{ℕ, ◌+◌, ◌-◌, ◌*◌, ◌<◌, List, Some, IfErr, OnOk, OnErr, MatchResult, length};
+    ghost use Rattle.sea_device.specs.Device.{Torn};
+    ghost use Rattle.sea_base.specs.Faults.{FaultsRose};
+    ghost use Rattle.sea_record.specs.Record.{IsRecord, blocks};
+    ghost use Rattle.sea_segment.specs.Table.{empty_of, live_of, with_live};
+    ghost use Rattle.sea_trail.specs.Trail.{IsTrail};
+    ghost use Rattle.sea_journal.specs.Changes.{ChangesBy, CountsFaults};
+    ghost use Rattle.sea_journal.specs.Journal.{HasLog, CrashesKeep, IsBegun, BlamesRightly};
+    ghost use Rattle.sea_journal.specs.Queue.{BeginsBehind};
+    ghost use Rattle.sea_journal.specs.Log.{Log, IsSynced, NamesTail, pushed};
+    ghost use Rattle.sea_journal.specs.Resume.{CanResume, record_behind, mount_record, mounted};
+
+    /// Goes on behind the trail of a device, which was synced before it was read: writes a mount record
+    /// and syncs it. Where it fails it hands the device back.
+    pub fn resume(
+        alloc: Global,
+        device: D,
+        trail: &Trail,
+        table: Table,
+    ) -> Result<Journal<D>, (D, ResumeFault)>
+        requires { CanResume trail.now (D.size device) }
+        ensures begun { (image : List ℕ) → D.contents device ≡ Some image → IsTrail image trail.now
+            → ((c : List ℕ) → D.may_leave device c → c ≡ image)
+            → IfOk result (λ j. IsBegun D.Device image trail.now j) }
+        // A clear image of a crash within the call has the trail that was found, and then the mount
+        // record or not.
+        ensures crash { (image : List ℕ) → D.contents device ≡ Some image → IsTrail image trail.now
+            → ((c : List ℕ) → D.may_leave device c → c ≡ image)
+            → MatchResult result
+            (λ j. CrashesKeep D.Device (mounted image trail.now) device j.device)
+            (λ e. CrashesKeep D.Device (mounted image trail.now) device e.0) }
+        ensures cause { IfErr result (λ e. BlamesRightly (D.faults device) (D.faults e.0) e.1) }
+    {
+        let queue = Queue::behind(alloc, trail);
+        let mut journal = Journal {
+            device,
+            table,
+            queue,
+        };
+        if journal.push_mount(alloc, trail).is_err() {
+            return Err((journal.close(), ResumeFault::NoMemory));
+        }
+        if journal.sync().is_err() {
+            return Err((journal.close(), ResumeFault::DeviceFault));
+        }
+        Ok(journal)
+    }
+
+    // Queues the mount record behind a trail.
+    fn push_mount(&mut self, alloc: Global, trail: &Trail) -> Result<(), NoMemory>
+        requires can { CanResume trail.now (D.size self.old.device) }
+        requires behind { BeginsBehind trail.now self.old.queue }
+        ensures ok { (log : Log) → HasLog D.Device log self.old → NamesTail log trail.now.tail
+            → OnOk result (HasLog D.Device (pushed log (mount_record trail.now)) self.new) }
+        ensures device { self.new.device ≡ self.old.device }
+    {
+        let body = mount_body(alloc)?;
+        self.push(body, trail.tail, trail.root)?;
+        Ok(())
+    }
+
+    /// How many blocks of the open segment are left.
+    pub fn rest(&self) -> u32
+        ensures { result + self.now.queue.place.0 ≡ end_of self.now.queue.active }
+    {
+        self.queue.rest()
+    }
+
+    /// Queues the record with this body, which is no larger than the rest, and answers its number.
+    pub fn push(&mut self, body: Body, tail: Tail, root: Root) -> Result<Commit, NoMemory>
+        requires is_record { IsRecord (record_behind self.old.queue.place.0 self.old.queue.seq
+            self.old.queue.link body tail root) }
+        requires room { self.old.queue.place.0 + blocks body ≤ end_of self.old.queue.active }
+        ensures ok { (log : Log) → HasLog D.Device log self.old → NamesTail log tail
+            → OnOk result (HasLog D.Device (pushed log (record_behind self.old.queue.place.0
+            self.old.queue.seq self.old.queue.link body tail root)) self.new) }
+        ensures err { (log : Log) → HasLog D.Device log self.old
+            → OnErr result (HasLog D.Device log self.new) }
+        ensures device { self.new.device ≡ self.old.device }
+        ensures commit { IfOk result (λ commit. commit.0 ≡ self.old.queue.link.commit.0 + 1) }
+    {
+        self.queue.push(body, tail, root)
+    }
+
+    /// Writes what is queued, and syncs. With an empty queue it makes no call of the device. After a
+    /// fault the queue stays.
+    pub fn sync(&mut self) -> Result<(), Failed>
+        ensures idle { self.old.queue.place ≡ self.old.queue.start
+            → (result ≡ Ok tt) × (self.new.device ≡ self.old.device) }
+        ensures ok { (log : Log) → HasLog D.Device log self.old → OnOk result
+            ((new : Log) × HasLog D.Device new self.new × IsSynced log new) }
+        ensures err { (log : Log) → HasLog D.Device log self.old
+            → OnErr result (HasLog D.Device log self.new) }
+        // At each moment of the call a clear image has what was stable, and then a prefix.
+        ensures crash { (log : Log) → HasLog D.Device log self.old
+            → CrashesKeep D.Device log self.old.device self.new.device }
+        ensures changes { ChangesBy (Torn (4096 * self.old.queue.start.0)
+            (4096 * (end_of self.old.queue.active - self.old.queue.start.0))) D.Device
+            self.old.device self.new.device }
+        ensures cause { CountsFaults (D.faults self.old.device) (D.faults self.new.device) result }
+    {
+        self.queue.write(&mut self.device)
+    }
+
+    /// How many segments are empty.
+    pub fn empty(&self) -> u32
+        ensures { result ≡ empty_of self.now.table }
+    {
+        self.table.empty()
+    }
+
+    /// How many records are queued.
+    pub fn unsynced(&self) -> u32
+        ensures exact { result ≡ self.now.queue.count }
+        ensures log { (log : Log) → HasLog D.Device log self.now → result ≡ length log.queued }
+    {
+        self.queue.count
+    }
+
+    /// The states of the segments, and how many of their blocks are live.
+    pub fn table(&self) -> &Table
+        ensures { result.now ≡ self.now.table }
+    {
+        &self.table
+    }
+
+    /// The number of the last record, a queued one too.
+    pub fn commit(&self) -> Commit
+        ensures { result ≡ self.now.queue.link.commit }
+    {
+        self.queue.link.commit
+    }
+
+    /// The mount number of the last record, a queued one too.
+    pub fn mount(&self) -> u64
+        ensures { result ≡ self.now.queue.link.mount }
+    {
+        self.queue.link.mount
+    }
+
+    /// The sequence number of the open segment.
+    pub fn seq(&self) -> u64
+        ensures { result ≡ self.now.queue.seq }
+    {
+        self.queue.seq
+    }
+
+    /// Counts one more live block of a segment.
+    pub fn add_live(&mut self, segment: u32)
+        requires within { segment < length self.old.table }
+        requires room { live_of self.old.table segment < 2047 }
+        ensures table { self.new.table
+            ≡ with_live self.old.table segment (live_of self.old.table segment + 1) }
+        ensures others { (self.new.queue ≡ self.old.queue) × (self.new.device ≡ self.old.device) }
+    {
+        self.table.add_live(segment);
+    }
+
+    /// Counts one live block of a segment less.
+    pub fn take_live(&mut self, segment: u32)
+        requires within { segment < length self.old.table }
+        requires some { 0 < live_of self.old.table segment }
+        ensures table { self.new.table
+            ≡ with_live self.old.table segment (live_of self.old.table segment - 1) }
+        ensures others { (self.new.queue ≡ self.old.queue) × (self.new.device ≡ self.old.device) }
+    {
+        self.table.take_live(segment);
+    }
+
+    /// Hands the device back.
+    pub fn close(self) -> D
+        ensures { result ≡ self.device }
+    {
+        let Journal {
+            device,
+            table: _,
+            queue: _,
+        } = self;
+        device
+    }
+}
+
+// The body of a mount record.
+fn mount_body(alloc: Global) -> Result<Body, NoMemory>
+    ensures { IfOk result (λ body. body ≡ mount_body) }
+{
+    Ok(Body {
+        kind: Kind::Mount,
+        placed: Sequence::new(alloc),
+        nodes: Sequence::new(alloc),
+        dropped: Sequence::new(alloc),
+        changes: Sequence::new(alloc),
+        plain: Data::from_vec(Vec::new(alloc))?,
+    })
+}
