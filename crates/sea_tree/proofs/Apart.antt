@@ -1,5 +1,5 @@
 -- The nodes of a subtree are distinct, and those of one child are none of another's.
-use Rattle.std.proofs.Common.{◌≡◌, ◌≢◌, ◌⊎◌, ℕ, zero, suc, ◌<◌, ◌≤◌, List, [], ◌∷◌, ◌++◌, Option, Some, None, refl, sym, ap, subst, ◌∙◌, inl, inr, ⊎_elim, append_assoc, arith}
+use Rattle.std.proofs.Common.{◌≡◌, ◌≢◌, ◌⊎◌, ℕ, zero, suc, ◌<◌, ◌≤◌, List, [], ◌∷◌, ◌++◌, Option, Some, None, refl, sym, ap, subst, ◌∙◌, inl, inr, ⊎_elim, arith}
 use Rattle.std.specs.List.{All, AllPairs, Contains}
 use Rattle.std.proofs.lemmas.List.Elements.{All-head, All-tail, All-cons, All-weaker, All-from_recursion, Contains-append_left, Contains-append_right, Contains-append_cases, Contains-get_or}
 use Rattle.std.proofs.lemmas.List.Kept.{AllPairs-cons}
@@ -11,8 +11,8 @@ use Rattle.sea_tree.specs.Tree.{NodeAt, Bounds, root_bounds, IsWithin, first_key
 use Rattle.sea_tree.specs.Breaks.{HasNode}
 use Rattle.sea_tree.specs.Content.{Guides, Leads, LeadsTo, HasContent}
 use Rattle.sea_tree.specs.Subtrees.{AllBelow, Holds}
-use Rattle.sea_tree.proofs.Holding.{Picked, Contains-nil, Contains-cases, Contains-head, Contains-later, one_node, Holds-from_subtree, nodes_of_root, no_node}
-use Rattle.sea_tree.proofs.Frames.{IsSameOn, NodeAt-kept, Adjacent}
+use Rattle.sea_tree.proofs.Holding.{Contains-nil, Contains-cases, Contains-head, Contains-later, one_node, Holds-from_subtree, nodes_of_root, no_node}
+use Rattle.sea_tree.proofs.Frames.{NodeAt-kept}
 
 -- ---- distinct numbers
 
@@ -186,28 +186,6 @@ pub distinct-middle : (a n b : List ℕ) → AllPairs ◌≢◌ (a ++ (n ++ b)) 
 distinct-middle a n b distinct q c =
     (λ k. distinct-apart a (n ++ b) distinct q k (Contains-append_left n b q c), λ k. distinct-apart n b (distinct-right a (n ++ b) distinct) q c k)
 
--- Where a store changes at no filled address but those of one child, the nodes on both sides stay.
-pub Picked-sides : (s t : Store) (level : ℕ) (before : List Entry) (entry : Entry) (after : List Entry) (upper : Option (List ℕ)) (pairs : List Entry) (nodes : List ℕ) (m : Picked (Holds s level) before entry after upper pairs nodes) → AllPairs ◌≢◌ nodes → ((q : ℕ) → (Contains m.nodes_here q → ⊥) → s q ≢ None → t q ≡ s q) → IsSameOn s t m.nodes_before × IsSameOn s t m.nodes_after
-Picked-sides s t level before entry after upper pairs nodes m distinct elsewhere =
-    let parted : (q : ℕ) → Contains m.nodes_here q → (Contains m.nodes_before q → ⊥) × (Contains m.nodes_after q → ⊥) =
-    distinct-middle m.nodes_before m.nodes_here m.nodes_after (subst (λ (l : List ℕ). AllPairs ◌≢◌ l) m.nodes_are distinct) in (
-      λ q c. elsewhere q (λ k. (parted q k).0 c) (AllBelow-filled s level before (Some entry.0) m.pairs_before m.nodes_before m.first q c),
-      λ q c. elsewhere q (λ k. (parted q k).1 c) (AllBelow-filled s level after upper m.pairs_after m.nodes_after m.rest q c),
-    )
-
--- the same where it changes at those of two adjacent children
-pub Adjacent-sides : (s t : Store) (level : ℕ) (before : List Entry) (entry next : Entry) (after : List Entry) (upper : Option (List ℕ)) (pairs : List Entry) (nodes : List ℕ) (m : Adjacent (Holds s level) before entry next after upper pairs nodes) → AllPairs ◌≢◌ nodes → ((q : ℕ) → (Contains m.nodes_here q → ⊥) → (Contains m.nodes_next q → ⊥) → s q ≢ None → t q ≡ s q) → IsSameOn s t m.nodes_before × IsSameOn s t m.nodes_after
-Adjacent-sides s t level before entry next after upper pairs nodes m distinct elsewhere =
-    let both = m.nodes_here ++ m.nodes_next in
-    let whole : AllPairs ◌≢◌ (m.nodes_before ++ (both ++ m.nodes_after)) =
-    subst (λ (l : List ℕ). AllPairs ◌≢◌ l) (m.nodes_are ∙ ap (λ (l : List ℕ). m.nodes_before ++ l) (sym (append_assoc m.nodes_here m.nodes_next m.nodes_after))) distinct in
-    let parted : (q : ℕ) → Contains both q → (Contains m.nodes_before q → ⊥) × (Contains m.nodes_after q → ⊥) = distinct-middle m.nodes_before both m.nodes_after whole in
-    let here : (q : ℕ) → Contains m.nodes_here q → Contains both q = Contains-append_left m.nodes_here m.nodes_next in
-    let there : (q : ℕ) → Contains m.nodes_next q → Contains both q = Contains-append_right m.nodes_here m.nodes_next in (
-      λ q c. elsewhere q (λ k. (parted q (here q k)).0 c) (λ k. (parted q (there q k)).0 c) (AllBelow-filled s level before (Some entry.0) m.pairs_before m.nodes_before m.first q c),
-      λ q c. elsewhere q (λ k. (parted q (here q k)).1 c) (λ k. (parted q (there q k)).1 c) (AllBelow-filled s level after upper m.pairs_after m.nodes_after m.rest q c),
-    )
-
 -- ---- a tree beside one that changes
 
 map_child : (P Q : ℕ → Bounds → Type 0) (entries : List Entry) (upper : Option (List ℕ)) → ((entry : Entry) (child : ℕ) (b : Bounds) → Contains entries entry → IsAddress entry.1 child → P child b → Q child b) → EachChild P entries upper → EachChild Q entries upper
@@ -232,21 +210,6 @@ IsSubtree-kept : (s t : Store) (level at : ℕ) (bounds : Bounds) → IsSameBelo
 IsSubtree-kept s t zero at bounds same tree = (tree.0, NodeAt-kept s t at 0 tree.0 (same_here s t 0 at same) tree.1, tree.2)
 IsSubtree-kept s t (suc level) at bounds same tree =
     (tree.0, NodeAt-kept s t at (suc level) tree.0 (same_here s t (suc level) at same) tree.1, tree.2, map_child (IsSubtree s level) (IsSubtree t level) tree.0 bounds.upper (λ entry child b c address. IsSubtree-kept s t level child b (same_child_below s t level at tree.0 entry child same tree.1 c address)) tree.3)
-
-IsBelowNode-kept : (s t : Store) (level at q : ℕ) → IsSameBelow s t level at → IsBelowNode s level at q → IsBelowNode t level at q
-IsBelowNode-kept s t zero at q same below = below
-IsBelowNode-kept s t (suc level) at q same (inl here) = inl here
-IsBelowNode-kept s t (suc level) at q same (inr d) =
-    let later = same_child_below s t level at d.0 d.2.0 d.2.2.0 same d.1 d.2.1 d.2.2.1 in
-    inr (d.0, NodeAt-kept s t at (suc level) d.0 (same_here s t (suc level) at same) d.1, (d.2.0, d.2.1, (d.2.2.0, d.2.2.1, IsBelowNode-kept s t level d.2.2.0 q later d.2.2.2)))
-
-IsBelowNode-back : (s t : Store) (level at q : ℕ) → IsSameBelow s t level at → IsBelowNode t level at q → IsBelowNode s level at q
-IsBelowNode-back s t zero at q same below = below
-IsBelowNode-back s t (suc level) at q same (inl here) = inl here
-IsBelowNode-back s t (suc level) at q same (inr d) =
-    let node : NodeAt s at (suc level) d.0 = NodeAt-kept t s at (suc level) d.0 (sym (same_here s t (suc level) at same)) d.1 in
-    let later = same_child_below s t level at d.0 d.2.0 d.2.2.0 same node d.2.1 d.2.2.1 in
-    inr (d.0, node, (d.2.0, d.2.1, (d.2.2.0, d.2.2.1, IsBelowNode-back s t level d.2.2.0 q later d.2.2.2)))
 
 guide_contained : (entries : List Entry) (key : List ℕ) (child : ℕ) (g : Guides entries key child) → Contains entries g.entry
 guide_contained entries key child g =
@@ -306,16 +269,6 @@ module _ (s t : Store) (other : ℕ) (here : t other ≡ s other) (same : (q : �
       let top = Leads-node t leads.0 other key value leads.1 in
       (leads.0, Leads-back s t leads.0 other key value (same_below leads.0 top.0 (NodeAt-kept t s other leads.0 top.0 (sym here) top.1)) leads.1)
 
-  -- a tree keeps its nodes where each of them stays
-  pub IsNodeOf-kept : (q : ℕ) → IsNodeOf s other q → IsNodeOf t other q
-  IsNodeOf-kept q node =
-      (node.0, (node.1.0, NodeAt-kept s t other node.0 node.1.0 here node.1.1), IsBelowNode-kept s t node.0 other q (same_below node.0 node.1.0 node.1.1) node.2)
-
-  pub IsNodeOf-back : (q : ℕ) → IsNodeOf t other q → IsNodeOf s other q
-  IsNodeOf-back q node =
-      let top : NodeAt s other node.0 node.1.0 = NodeAt-kept t s other node.0 node.1.0 (sym here) node.1.1 in
-      (node.0, (node.1.0, top), IsBelowNode-back s t node.0 other q (same_below node.0 node.1.0 top) node.2)
-
   -- A tree keeps its content where each of its nodes stays, and its root's address.
   pub HasContent-kept : (kept : Values) → HasContent s other kept → HasContent t other kept
   HasContent-kept kept h = record {
@@ -345,10 +298,6 @@ module _ (s t : Store) (root first next : ℕ) (tree : IsTree s root) (fresh : (
 
       none : IsNodeOf s root other → ⊥
       none mine = apart other mine (IsNodeOf-root s other h.tree (IsNodeOf-filled s root other tree mine))
-
-  -- A tree that has none of those nodes keeps its content.
-  pub HasContent-apart : ((at : ℕ) → (IsNodeOf s root at → ⊥) → (at < first) ⊎ (next ≤ at) → t at ≡ s at) → (other : ℕ) (kept : Values) → HasContent s other kept → AreApart s root other → (other < first) ⊎ (next ≤ other) → HasContent t other kept
-  HasContent-apart elsewhere other kept h apart old = kept_apart (λ at. Unit {0}) (λ at stays. elsewhere at) other kept h apart old tt (λ q node. tt)
 
   -- the same where the root's own address may change too, which has no node while the tree is empty
   pub HasContent-beside : ((at : ℕ) → at ≢ root → (IsNodeOf s root at → ⊥) → (at < first) ⊎ (next ≤ at) → t at ≡ s at) → (other : ℕ) (kept : Values) → HasContent s other kept → AreApart s root other → other ≢ root → (other < first) ⊎ (next ≤ other) → HasContent t other kept

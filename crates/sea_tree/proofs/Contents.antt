@@ -13,7 +13,7 @@ use Rattle.std.proofs.lemmas.List.Elements.{All-contains, All-from_recursion}
 use Rattle.sea_base.specs.Space.{Store}
 use Rattle.sea_node.specs.Entries.{Entry, Values, key_order, IsBelow, IsNotAbove, IsRising, edited}
 use Rattle.sea_node.proofs.Keys.{key_order_total, same_key, key_order-itself, key_order-back, IsRising-head, IsRising-tail}
-use Rattle.sea_tree.specs.Tree.{NodeAt, Bounds, root_bounds, IsWithin, next_key, child_bounds, IsAddress, IsTree}
+use Rattle.sea_tree.specs.Tree.{NodeAt, Bounds, root_bounds, IsWithin, next_key, child_bounds, IsAddress}
 use Rattle.sea_tree.specs.Content.{Guides, Leads, LeadsTo, HasContent}
 use Rattle.sea_tree.specs.Subtrees.{AllBelow, Holds}
 use Rattle.sea_tree.proofs.Holding.{node_held, Holds-from_subtree, subtree_held, AllBelow-pick, pair_below, same_address, one_node, keys_held, Contains-nil, Contains-cases, Contains-head, Contains-later, Contains-picked_pair}
@@ -218,11 +218,3 @@ one_content store root a b first second = same_map key_order_total same_key a b 
 
 pub only_empty : (store : Store) (root : ℕ) (content : Values) → store root ≡ None → HasContent store root content → content ≡ map.empty
 only_empty store root content none has = one_content store root content map.empty has (HasContent-empty store root none)
-
-pub content_of_tree : (store : Store) (root : ℕ) → IsTree store root → (content : Values) × HasContent store root content
-content_of_tree store root tree = elim tree [
-  | inl none ↦ (map.empty, HasContent-empty store root none)
-  | inr is ↦
-      let s = Holds-from_subtree store is.0 root root_bounds is.1 in
-      (map.from_sorted s.0, HasContent-from_sorted store is.0 root s.0 s.1 s.2)
-]

@@ -4,7 +4,7 @@ use Rattle.std.proofs.lemmas.Bool.{cases_Bool, eqb-true, eqb-false, true≢false
 use Rattle.std.specs.List.{Contains}
 use Rattle.std.specs.Option.{IsSome, is_some}
 use Rattle.std.proofs.lemmas.List.Elements.{Contains-append_left, Contains-append_right}
-use Rattle.sea_base.specs.Space.{Store, Seen, IsKnown, Agrees, laid, OnlyRead, Writes, Gives}
+use Rattle.sea_base.specs.Space.{Store, Seen, IsKnown, Agrees, laid, OnlyRead, Writes}
 use Rattle.sea_base.proofs.Spaces.{laid_changed, laid_unchanged}
 use Rattle.sea_tree.specs.Does.{Change, overlaid, is_among, Does, ChangesAtMost}
 
@@ -89,16 +89,6 @@ Does-write {old} {new} at block w = record {
     not_one : (q at : ℕ) → (q == at || false) ≡ false → q ≢ at
     not_one q at e = eqb-false q at (neither_left (q == at) false e)
 
-pub Does-give : {old new : Seen} (count : ℕ) → Gives count old new → Does [] old new
-Does-give count g = record {
-  reads = λ q found e. g.reads q ∙ e;
-  changed = g.changed;
-  view = λ q k. g.view q;
-  whole = λ q e. g.whole q;
-  splices = λ q e. g.splices q;
-  next = omega (arith, g.next);
-}
-
 -- what was known stays known, and what was changed is
 pub Does-known : {old new : Seen} (changes : List Change) → Does changes old new → (q : ℕ) → IsKnown old q → IsKnown new q
 Does-known {old} {new} changes d q (inl e) = inl (d.changed q ∙ elim (is_among changes q) as (λ b. (b || old.changed q) ≡ true) [ true ↦ refl | false ↦ e ])
@@ -142,9 +132,6 @@ Does-laid {old} {new} changes d store q =
 -- How many addresses are changed and filled still.
 pub ChangesAtMost-read : {old new : Seen} → OnlyRead old new → ChangesAtMost 0 old new
 ChangesAtMost-read r = ([], omega arith, λ at. inr (inr (record { changed = r.changed at; view = λ c. r.known at (inl c) })))
-
-pub ChangesAtMost-give : {old new : Seen} (count : ℕ) → Gives count old new → ChangesAtMost 0 old new
-ChangesAtMost-give count g = ([], omega arith, λ at. inr (inr (record { changed = g.changed at; view = λ c. g.view at })))
 
 pub ChangesAtMost-write : {old new : Seen} (at : ℕ) (block : Option (List ℕ)) → Writes at block old new → ChangesAtMost 1 old new
 ChangesAtMost-write {old} {new} at block w = (

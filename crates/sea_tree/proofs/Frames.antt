@@ -3,7 +3,7 @@ use Rattle.std.proofs.Common.{◌≡◌, ℕ, zero, suc, List, [], ◌∷◌, �
 use Rattle.std.proofs.lemmas.List.Elements.{Contains-append_left, Contains-append_right}
 use Rattle.sea_base.specs.Space.{Store}
 use Rattle.sea_node.specs.Entries.{Entry}
-use Rattle.sea_tree.specs.Tree.{NodeAt, Bounds, next_key, child_bounds, IsAddress}
+use Rattle.sea_tree.specs.Tree.{NodeAt, Bounds, child_bounds, IsAddress}
 use Rattle.sea_tree.specs.Breaks.{HasNode}
 use Rattle.sea_tree.specs.Subtrees.{AllBelow, Holds, Below}
 use Rattle.sea_tree.proofs.Holding.{Picked, AllBelow-append, AllBelow-pick, Contains-head, Contains-later}
@@ -66,11 +66,6 @@ Below-kept s t (suc level) entries upper pairs nodes same below = AllBelow-kept 
 
 -- ---- entries with their subtrees replaced
 
--- the bounds of entries before others
-pub next_key-append : (a b : List Entry) (upper : Option (List ℕ)) → next_key (a ++ b) upper ≡ next_key a (next_key b upper)
-next_key-append [] b upper = refl
-next_key-append (entry ∷ a) b upper = refl
-
 -- one subtree before others, and behind others
 pub AllBelow-one : (C : Children) (entry : Entry) (after : List Entry) (upper : Option (List ℕ)) (child : ℕ) (p ps : List Entry) (n ns : List ℕ) → IsAddress entry.1 child → C child (child_bounds entry after upper) p n → AllBelow C after upper ps ns → AllBelow C (entry ∷ after) upper (p ++ ps) (n ++ ns)
 AllBelow-one C entry after upper child p ps n ns address here below = (child, p, ps, n, ns, address, here, below, refl, refl)
@@ -124,42 +119,3 @@ AllBelow-adjacent C before entry next after upper pairs nodes all =
       pairs_are = p.pairs_are ∙ ap (λ (l : List Entry). p.pairs_before ++ (p.pairs_here ++ l)) h.8;
       nodes_are = p.nodes_are ∙ ap (λ (l : List ℕ). p.nodes_before ++ (p.nodes_here ++ l)) h.9;
     }
-
-module _ (s t : Store) (level : ℕ) where
-  -- Some entries are replaced by others with the same first key, and the nodes on both sides stay.
-  pub AllBelow-replaced : (before middle after : List Entry) (upper : Option (List ℕ)) (key : List ℕ) (pb p pa : List Entry) (nb n na : List ℕ) → IsSameOn s t nb → IsSameOn s t na → AllBelow (Holds s level) before (Some key) pb nb → AllBelow (Holds s level) after upper pa na → next_key middle (next_key after upper) ≡ Some key → AllBelow (Holds t level) middle (next_key after upper) p n → AllBelow (Holds t level) (before ++ (middle ++ after)) upper (pb ++ (p ++ pa)) (nb ++ (n ++ na))
-  AllBelow-replaced before middle after upper key pb p pa nb n na same_before same_after first rest begins here =
-      let bound : next_key (middle ++ after) upper ≡ Some key = next_key-append middle after upper ∙ begins in
-      let left : AllBelow (Holds t level) before (next_key (middle ++ after) upper) pb nb = subst (λ (u : Option (List ℕ)). AllBelow (Holds t level) before u pb nb) (sym bound) (AllBelow-kept s t level before (Some key) pb nb same_before first) in
-      let right : AllBelow (Holds t level) after upper pa na = AllBelow-kept s t level after upper pa na same_after rest in
-      AllBelow-append (Holds t level) before (middle ++ after) upper pb (p ++ pa) nb (n ++ na) left (AllBelow-append (Holds t level) middle after upper p pa n na here right)
-
-  module _ (before : List Entry) (entry : Entry) (after : List Entry) (upper : Option (List ℕ)) (pairs : List Entry) (nodes : List ℕ) (m : Picked (Holds s level) before entry after upper pairs nodes) (same_before : IsSameOn s t m.nodes_before) (same_after : IsSameOn s t m.nodes_after) where
-    -- one subtree changed
-    pub Picked-one : (p : List Entry) (n : List ℕ) → Holds t level m.child (child_bounds entry after upper) p n → AllBelow (Holds t level) (before ++ entry ∷ after) upper (m.pairs_before ++ (p ++ m.pairs_after)) (m.nodes_before ++ (n ++ m.nodes_after))
-    Picked-one p n here =
-        let left = AllBelow-kept s t level before (Some entry.0) m.pairs_before m.nodes_before same_before m.first in
-        let right = AllBelow-kept s t level after upper m.pairs_after m.nodes_after same_after m.rest in
-        AllBelow-around (Holds t level) before entry after upper m.child m.pairs_before p m.pairs_after m.nodes_before n m.nodes_after left m.address here right
-
-    -- one subtree become two: an entry more leads to the second
-    pub Picked-two : (extra : Entry) (other : ℕ) (p p' : List Entry) (n n' : List ℕ) → IsAddress extra.1 other → Holds t level m.child (child_bounds entry (extra ∷ after) upper) p n → Holds t level other (child_bounds extra after upper) p' n' → AllBelow (Holds t level) (before ++ entry ∷ extra ∷ after) upper (m.pairs_before ++ (p ++ (p' ++ m.pairs_after))) (m.nodes_before ++ (n ++ (n' ++ m.nodes_after)))
-    Picked-two extra other p p' n n' address here there =
-        let left = AllBelow-kept s t level before (Some entry.0) m.pairs_before m.nodes_before same_before m.first in
-        let right = AllBelow-kept s t level after upper m.pairs_after m.nodes_after same_after m.rest in
-        AllBelow-around (Holds t level) before entry (extra ∷ after) upper m.child m.pairs_before p (p' ++ m.pairs_after) m.nodes_before n (n' ++ m.nodes_after) left m.address here (AllBelow-one (Holds t level) extra after upper other p' m.pairs_after n' m.nodes_after address there right)
-
-  module _ (before : List Entry) (entry next : Entry) (after : List Entry) (upper : Option (List ℕ)) (pairs : List Entry) (nodes : List ℕ) (m : Adjacent (Holds s level) before entry next after upper pairs nodes) (same_before : IsSameOn s t m.nodes_before) (same_after : IsSameOn s t m.nodes_after) where
-    -- two adjacent subtrees become one: the first takes the bounds of both
-    pub Adjacent-one : (p : List Entry) (n : List ℕ) → Holds t level m.child (child_bounds entry after upper) p n → AllBelow (Holds t level) (before ++ entry ∷ after) upper (m.pairs_before ++ (p ++ m.pairs_after)) (m.nodes_before ++ (n ++ m.nodes_after))
-    Adjacent-one p n here =
-        let left = AllBelow-kept s t level before (Some entry.0) m.pairs_before m.nodes_before same_before m.first in
-        let right = AllBelow-kept s t level after upper m.pairs_after m.nodes_after same_after m.rest in
-        AllBelow-around (Holds t level) before entry after upper m.child m.pairs_before p m.pairs_after m.nodes_before n m.nodes_after left m.address here right
-
-    -- two adjacent subtrees stay two, with another key between them
-    pub Adjacent-two : (key : List ℕ) (p p' : List Entry) (n n' : List ℕ) → Holds t level m.child (child_bounds entry ((key, next.1) ∷ after) upper) p n → Holds t level m.next_child (child_bounds (key, next.1) after upper) p' n' → AllBelow (Holds t level) (before ++ entry ∷ (key, next.1) ∷ after) upper (m.pairs_before ++ (p ++ (p' ++ m.pairs_after))) (m.nodes_before ++ (n ++ (n' ++ m.nodes_after)))
-    Adjacent-two key p p' n n' here there =
-        let left = AllBelow-kept s t level before (Some entry.0) m.pairs_before m.nodes_before same_before m.first in
-        let right = AllBelow-kept s t level after upper m.pairs_after m.nodes_after same_after m.rest in
-        AllBelow-around (Holds t level) before entry ((key, next.1) ∷ after) upper m.child m.pairs_before p (p' ++ m.pairs_after) m.nodes_before n (n' ++ m.nodes_after) left m.address here (AllBelow-one (Holds t level) (key, next.1) after upper m.next_child p' m.pairs_after n' m.nodes_after m.next_address there right)

@@ -7,10 +7,10 @@ use Rattle.sea_base.specs.Space.{Store}
 use Rattle.sea_base.proofs.Fields.{big_endian-injective}
 use Rattle.sea_node.specs.Entries.{Entry, IsBelow, IsNotAbove, IsRising}
 use Rattle.sea_node.specs.Node.{Spells}
-use Rattle.sea_node.proofs.Keys.{IsBelowAll, AreBelow, IsNotAbove-trans, IsNotAbove-below, IsNotAbove-itself, below_then_not_above, not_above_then_below, IsRising-nil, IsRising-head, IsRising-tail, IsRising-append}
+use Rattle.sea_node.proofs.Keys.{IsBelowAll, AreBelow, IsNotAbove-trans, IsNotAbove-below, IsNotAbove-itself, below_then_not_above, IsRising-nil, IsRising-head, IsRising-tail, IsRising-append}
 use Rattle.sea_node.proofs.Nodes.{one_spelled}
 use Rattle.sea_tree.specs.Tree.{NodeAt, Bounds, root_bounds, IsWithin, IsInPlace, next_key, child_bounds, IsAddress, EachChild, IsSubtree, IsTree, IsBelowNode, IsNodeOf}
-use Rattle.sea_tree.specs.Breaks.{HasNode, Child, BreaksBelow, BreaksFirst, BreaksOnPath, FromRoot, Breaks, IsFirstBreak, IsBreakOnPath}
+use Rattle.sea_tree.specs.Breaks.{HasNode, Child, BreaksBelow, BreaksOnPath, FromRoot, Breaks, IsBreakOnPath}
 use Rattle.sea_tree.specs.Subtrees.{AllBelow, Holds, Below}
 
 -- ---- the same as in the specs
@@ -39,10 +39,6 @@ subtree_held store zero at bounds pairs nodes holds = (holds.0, holds.1.0, holds
 subtree_held store (suc level) at bounds pairs nodes holds =
     (holds.0, holds.2.0, holds.2.1, each_from_AllBelow (IsSubtree store level) (Holds store level) (subtree_held store level) holds.0 bounds.upper pairs holds.1 holds.3)
 
--- what the children of some entries hold, and that they are subtrees
-pub Below-from_each : (store : Store) (level : ℕ) (entries : List Entry) (upper : Option (List ℕ)) → EachChild (IsSubtree store level) entries upper → (pairs : List Entry) × (nodes : List ℕ) × Below store (suc level) entries upper pairs nodes
-Below-from_each store level entries upper all = AllBelow_from_each (IsSubtree store level) (Holds store level) (Holds-from_subtree store level) entries upper all
-
 pub each_below : (store : Store) (level : ℕ) (entries : List Entry) (upper : Option (List ℕ)) (pairs : List Entry) (nodes : List ℕ) → Below store (suc level) entries upper pairs nodes → EachChild (IsSubtree store level) entries upper
 each_below store level entries upper pairs nodes below = each_from_AllBelow (IsSubtree store level) (Holds store level) (subtree_held store level) entries upper pairs nodes below
 
@@ -61,10 +57,6 @@ node_held store (suc level) at bounds pairs nodes holds = record { entries = hol
 pub Holds-node : (store : Store) (level at : ℕ) (bounds : Bounds) (entries pairs : List Entry) (others : List ℕ) → HasNode store level at bounds entries → Below store level entries bounds.upper pairs others → Holds store level at bounds pairs (at ∷ others)
 Holds-node store zero at bounds entries pairs others node below = (entries, node, below.0, ap (λ (ns : List ℕ). at ∷ ns) below.1)
 Holds-node store (suc level) at bounds entries pairs others node below = (entries, others, node, below, refl)
-
-pub Holds-from_below : (store : Store) (level at : ℕ) (bounds : Bounds) (pairs : List Entry) (nodes : List ℕ) → HoldsBelow store level at bounds pairs nodes → Holds store level at bounds pairs nodes
-Holds-from_below store level at bounds pairs nodes h =
-    subst (Holds store level at bounds pairs) (sym h.nodes_are) (Holds-node store level at bounds h.entries pairs h.others h.node h.below)
 
 -- ---- children in two parts, and one of several
 
@@ -119,10 +111,6 @@ AllBelow-append C (e ∷ es) fs upper p ps n ns first second = (
   ap (λ (r : List ℕ). r ++ ns) first.9 ∙ append_assoc first.3 first.4 ns,
 )
 
-pub AllBelow-joined : (C : ℕ → Bounds → List Entry → List ℕ → Type 0) (es fs : List Entry) (upper : Option (List ℕ)) (pairs : List Entry) (nodes : List ℕ) → SplitBelow C es fs upper pairs nodes → AllBelow C (es ++ fs) upper pairs nodes
-AllBelow-joined C es fs upper pairs nodes s =
-    subst (λ (ns : List ℕ). AllBelow C (es ++ fs) upper pairs ns) (sym s.nodes_are) (subst (λ (ps : List Entry). AllBelow C (es ++ fs) upper ps (s.nodes_before ++ s.nodes_after)) (sym s.pairs_are) (AllBelow-append C es fs upper s.pairs_before s.pairs_after s.nodes_before s.nodes_after s.before s.after))
-
 -- one entry of several, with its child, and what stands before, in and after it
 pub record Picked (C : ℕ → Bounds → List Entry → List ℕ → Type 0) (before : List Entry) (entry : Entry) (after : List Entry) (upper : Option (List ℕ)) (pairs : List Entry) (nodes : List ℕ) : Type 0 where
   pub child : ℕ
@@ -159,18 +147,6 @@ AllBelow-pick C before entry after upper pairs nodes all =
       nodes_are = s.nodes_are ∙ ap (λ (ns : List ℕ). s.nodes_before ++ ns) h.9;
     }
 
-pub AllBelow-picked : (C : ℕ → Bounds → List Entry → List ℕ → Type 0) (before : List Entry) (entry : Entry) (after : List Entry) (upper : Option (List ℕ)) (pairs : List Entry) (nodes : List ℕ) → Picked C before entry after upper pairs nodes → AllBelow C (before ++ entry ∷ after) upper pairs nodes
-AllBelow-picked C before entry after upper pairs nodes p = AllBelow-joined C before (entry ∷ after) upper pairs nodes (record {
-  pairs_before = p.pairs_before;
-  pairs_after = p.pairs_here ++ p.pairs_after;
-  nodes_before = p.nodes_before;
-  nodes_after = p.nodes_here ++ p.nodes_after;
-  before = p.first;
-  after = (p.child, p.pairs_here, p.pairs_after, p.nodes_here, p.nodes_after, p.address, p.here, p.rest, refl, refl);
-  pairs_are = p.pairs_are;
-  nodes_are = p.nodes_are;
-})
-
 -- an address is told by the value that spells it
 pub same_address : (value : List ℕ) (a b : ℕ) → IsAddress value a → IsAddress value b → a ≡ b
 same_address value a b first second = big_endian-injective 8 a b first.0 second.0 (sym first.1 ∙ second.1)
@@ -191,10 +167,6 @@ AreWithin-node store level at bounds entries node = record { lower = node.1.lowe
 IsWithin-below : (a b : List ℕ) (high : Option (List ℕ)) → IsBelow a b → IsWithin b high → IsWithin a high
 IsWithin-below a b None below within = tt
 IsWithin-below a b (Some k) below within = below_then_not_above a b k below (IsNotAbove-below b k within)
-
-IsWithin-not_above : (a b : List ℕ) (high : Option (List ℕ)) → IsNotAbove a b → IsWithin b high → IsWithin a high
-IsWithin-not_above a b None le within = tt
-IsWithin-not_above a b (Some k) le within = not_above_then_below a b k le within
 
 pub AreWithin-nil : (low : List ℕ) (high : Option (List ℕ)) → AreWithin low high []
 AreWithin-nil low high = record { lower = All-nil (λ (e : Entry). IsNotAbove low e.0); upper = All-nil (λ (e : Entry). IsWithin e.0 high); rising = IsRising-nil }
@@ -424,13 +396,6 @@ unbroken store (suc level) at bounds q tree breaks = elim breaks [
       unbroken store level d.2.2 d.2.3 q (child_holds (IsSubtree store level) d.0 bounds.upper d.2.0 d.2.1 d.2.2 d.2.3 all d.2.4) d.2.5
 ]
 
-pub breaks_first : (store : Store) (level at : ℕ) (bounds : Bounds) (q : ℕ) → BreaksFirst store level at bounds q → BreaksBelow store level at bounds q
-breaks_first store zero at bounds q breaks = breaks
-breaks_first store (suc level) at bounds q breaks = elim breaks [
-  | inl here ↦ inl here
-  | inr d ↦ inr (d.0, d.1, (d.2.0, d.2.1, d.2.2, d.2.3, d.2.4, breaks_first store level d.2.2 d.2.3 q d.2.6))
-]
-
 pub breaks_on_path : (store : Store) (key : List ℕ) (level at : ℕ) (bounds : Bounds) (q : ℕ) → BreaksOnPath store key level at bounds q → BreaksBelow store level at bounds q
 breaks_on_path store key zero at bounds q breaks = breaks
 breaks_on_path store key (suc level) at bounds q breaks = elim breaks [
@@ -443,10 +408,6 @@ from_root P Q store root q each breaks = (
   breaks.0,
   elim breaks.1 [ inl here ↦ inl here | inr d ↦ inr (d.0, d.1, each d.0 d.2) ],
 )
-
-pub breaks_from_first : (store : Store) (root q : ℕ) → IsFirstBreak store root q → Breaks store root q
-breaks_from_first store root q breaks =
-    from_root (BreaksFirst store) (BreaksBelow store) store root q (λ level. breaks_first store level root root_bounds q) breaks
 
 pub breaks_from_path : (store : Store) (key : List ℕ) (root q : ℕ) → IsBreakOnPath store key root q → Breaks store root q
 breaks_from_path store key root q breaks =
@@ -471,16 +432,3 @@ whole_tree store root q tree breaks = elim tree [
               let same = (one_node store root level d.0 own.0 d.1.0 own.1 d.1.1.0).0 in
               unbroken store d.0 root root_bounds q (subst (λ (l : ℕ). IsSubtree store l root root_bounds) same t) d.2
         ]
-
--- so no break of any kind is in a tree, nor below a node that is in its place with all below it
-pub whole_tree_first : (store : Store) (root q : ℕ) → IsTree store root → IsFirstBreak store root q → ⊥
-whole_tree_first store root q tree breaks = whole_tree store root q tree (breaks_from_first store root q breaks)
-
-pub whole_tree_path : (store : Store) (key : List ℕ) (root q : ℕ) → IsTree store root → IsBreakOnPath store key root q → ⊥
-whole_tree_path store key root q tree breaks = whole_tree store root q tree (breaks_from_path store key root q breaks)
-
-pub unbroken_first : (store : Store) (level at : ℕ) (bounds : Bounds) (q : ℕ) → IsSubtree store level at bounds → BreaksFirst store level at bounds q → ⊥
-unbroken_first store level at bounds q tree breaks = unbroken store level at bounds q tree (breaks_first store level at bounds q breaks)
-
-pub unbroken_path : (store : Store) (key : List ℕ) (level at : ℕ) (bounds : Bounds) (q : ℕ) → IsSubtree store level at bounds → BreaksOnPath store key level at bounds q → ⊥
-unbroken_path store key level at bounds q tree breaks = unbroken store level at bounds q tree (breaks_on_path store key level at bounds q breaks)

@@ -1,7 +1,7 @@
 -- What the leaf at a path's end tells of the content of a tree.
-use Rattle.std.proofs.Common.{◌≡◌, ℕ, zero, suc, ◌+◌, ◌<◌, Bool, true, false, cond, List, [], ◌∷◌, length, get_or, drop, drop-cons, add-one, Option, Some, None, refl, sym, ap, ◌∙◌, arith}
+use Rattle.std.proofs.Common.{◌≡◌, ℕ, zero, suc, ◌<◌, Bool, true, false, cond, List, [], ◌∷◌, length, get_or, Option, Some, None, refl, sym, ap, ◌∙◌, arith}
 use Rattle.std.specs.List.{Contains}
-use Rattle.std.specs.Ordering.{is_eq, eq_by_cmp}
+use Rattle.std.specs.Ordering.{is_eq}
 use Rattle.std.specs.declared.cmp.Ordering.{Ordering}
 use Rattle.std.specs.declared.cmp.Ordering.TheVariants.{Less, Equal, Greater}
 use Rattle.std.specs.FinMap as map
@@ -66,22 +66,3 @@ module _ (old new : Seen) (root : ℕ) (reads : OnlyRead old new) (sound : IsSou
   known_empty known none q = ap (λ (m : Values). map.get m q) (only_empty (laid old store) root content (sym (laid_same old new store reads sound agrees root known) ∙ none) holds) ∙ map.get-empty key_order q
 
 -- ---- a look through a leaf's entries
-
-find_drop : (q : List ℕ) (es : List Entry) (i : ℕ) (e : Entry) → i < length es → e ≡ get_or es i e → find key_order q (drop i es) ≡ cond (eq_by_cmp key_order q e.0) (Some e.1) (find key_order q (drop (i + 1) es))
-find_drop q es i e within is =
-    let cut : drop i es ≡ get_or es i e ∷ drop (i + 1) es = rw (add-one, drop-cons es i e) in
-    ap (find key_order q) cut ∙ ap (λ (x : Entry). cond (eq_by_cmp key_order q x.0) (Some x.1) (find key_order q (drop (i + 1) es))) (sym is)
-
-pub found_here : (q : List ℕ) (es : List Entry) (i : ℕ) (e : Entry) → i < length es → e ≡ get_or es i e → e.0 ≡ q → find key_order q es ≡ find key_order q (drop i es) → find key_order q es ≡ Some e.1
-found_here q es i e within is key so_far =
-    let tie : eq_by_cmp key_order q e.0 ≡ true = ap is_eq (ap (key_order q) key ∙ key_order-itself q) in
-    so_far ∙ find_drop q es i e within is ∙ ap (λ (b : Bool). cond b (Some e.1) (find key_order q (drop (i + 1) es))) tie
-
-pub passed_here : (q : List ℕ) (es : List Entry) (i : ℕ) (e : Entry) → i < length es → e ≡ get_or es i e → (e.0 ≡ q → ⊥) → find key_order q es ≡ find key_order q (drop i es) → find key_order q es ≡ find key_order q (drop (i + 1) es)
-passed_here q es i e within is other so_far =
-    so_far ∙ find_drop q es i e within is ∙ by (key_order q e.0) refl
-  where
-    by : (o : Ordering) → key_order q e.0 ≡ o → cond (is_eq o) (Some e.1) (find key_order q (drop (i + 1) es)) ≡ find key_order q (drop (i + 1) es)
-    by Less tie = refl
-    by Greater tie = refl
-    by Equal tie = absurd (other (sym (same_key q e.0 tie)))

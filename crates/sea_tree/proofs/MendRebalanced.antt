@@ -3,7 +3,6 @@ use Rattle.std.proofs.Common.{◌≡◌, ◌⊎◌, ℕ, suc, ◌+◌, ◌<◌, 
 use Rattle.sea_base.specs.Field.{big_endian}
 use Rattle.sea_base.specs.Space.{Store, Seen, Agrees, laid}
 use Rattle.sea_base.proofs.Slices.{same_parts}
-use Rattle.sea_base.proofs.Fields.{length-big_endian}
 use Rattle.sea_node.specs.Entries.{Entry, size}
 use Rattle.sea_node.specs.Node.{IsNode, node_bytes}
 use Rattle.sea_tree.specs.declared.edit.Edit.{Edit}
@@ -16,14 +15,14 @@ use Rattle.sea_tree.specs.Path.{StepsDown}
 use Rattle.sea_tree.specs.Reads.{ReadsOnly}
 use Rattle.sea_tree.specs.Rebalanced.{Fits, Neighbours, Merges, Redistributes, Rebalanced}
 use Rattle.sea_tree.specs.Subtrees.{Holds}
-use Rattle.sea_tree.specs.Mending.{after_edit, IsNearPlace, Aim, Mending, Replaced, IsPart}
+use Rattle.sea_tree.specs.Mending.{after_edit, Aim, Mending, Replaced, IsPart}
 use Rattle.sea_tree.proofs.Frames.{HasNode-kept}
 use Rattle.sea_tree.proofs.Mending.{fits_replaced, up_replaced}
-use Rattle.sea_tree.proofs.MendNear.{IsNode-filled, halves, size-edited_inner, size-moved_inner}
+use Rattle.sea_tree.proofs.MendNear.{IsNode-filled, halves}
 use Rattle.sea_tree.proofs.MendSplit.{IsFree, given_more, split_mended, split_puts}
-use Rattle.sea_tree.proofs.MendPair.{AreInPlace, Paired, pair_left, pair_right}
-use Rattle.sea_tree.proofs.MendMerge.{second_name, merge_mended}
-use Rattle.sea_tree.proofs.MendCut.{halves_placed, cut_mended, cut_replaced}
+use Rattle.sea_tree.proofs.MendPair.{Paired, pair_left, pair_right}
+use Rattle.sea_tree.proofs.MendMerge.{merge_mended}
+use Rattle.sea_tree.proofs.MendCut.{cut_mended, cut_replaced}
 
 -- The change is made below a node that is to have an edit still, or in its whole subtree, where none is left.
 abbrev pub IsMended : Store → Store → ℕ → ℕ → Bounds → List Entry → Aim → Option Edit → Type 0
@@ -114,35 +113,6 @@ module _ (was is : Store) (level top : ℕ) (bounds : Bounds) (pairs : List Entr
         subst (IsMended was is' (suc level) top bounds step.node.entries aim) (sym f.nothing)
         (up_replaced was is' level at top bounds pairs nodes step.node.entries down.before down.entry down.after aim holds down.node down.split.split down.address
         (subst (λ (c : Bounds). Replaced was is' level level at c aim) down.below_is written) free)
-
-    -- The parent's entries take 75 bytes more at most.
-    pub rebalanced_grown : (changes : List Change) (left : Option Edit) (edit : Edit) → Rebalanced level at entries step old new changes left → left ≡ Some edit → size (after_edit edit step.node.entries) ≤ size step.node.entries + 75
-    rebalanced_grown changes left edit rebalanced is = by_case rebalanced
-      where
-        node : IsNode (suc level) step.node.entries
-        node = down.node.0.spells.node
-
-        same_edit : (e : Edit) → left ≡ Some e → e ≡ edit
-        same_edit e here = let both : Some e ≡ Some edit = sym here ∙ is in cc
-
-        by_case : Rebalanced level at entries step old new changes left → size (after_edit edit step.node.entries) ≤ size step.node.entries + 75
-        by_case (inl f) = let clash : None ≡ Some edit = sym f.nothing ∙ is in absurd (cc)
-        by_case (inr (inl s)) =
-            let parts = halves level below s.front s.back (subst (IsNearPlace level below) s.cut m.near) s.front_part s.back_part in
-            subst (λ (e : Edit). size (after_edit e step.node.entries) ≤ size step.node.entries + 75) (same_edit _ s.parent) (size-edited_inner (suc level) (first_key s.back) (Some (big_endian 8 old.next)) step.node.entries node parts.name (length-big_endian 8 old.next))
-        by_case (inr (inr (inl j))) =
-            let p = neighbours_paired j.pair in
-            let name = second_name was level top bounds j.pair.before j.pair.one j.pair.two j.pair.after j.pair.one_at j.pair.two_at p.beside in
-            subst (λ (e : Edit). size (after_edit e step.node.entries) ≤ size step.node.entries + 75) (same_edit _ j.parent_edit) (size-edited_inner (suc level) j.pair.two.0 None step.node.entries node name tt)
-        by_case (inr (inr (inr c))) = elim c.parent_edit [
-          | inl here ↦
-              let n = c.pair in
-              let p = neighbours_paired n in
-              let parts = halves_placed level (child_bounds n.one n.after bounds.upper) c.front c.back (subst (AreInPlace level (child_bounds n.one n.after bounds.upper)) c.cut p.placed) c.front_part c.back_part in
-              let grows = size-moved_inner (suc level) step.node.entries n.before n.one n.two.0 (first_key c.back) n.two.1 n.after n.split node (omega arith) parts.name in
-              subst (λ (e : Edit). size (after_edit e step.node.entries) ≤ size step.node.entries + 75) (same_edit _ here) grows
-          | inr stays ↦ let clash : None ≡ Some edit = sym stays.0 ∙ is in absurd (cc)
-        ]
 
   module _ (old new : Seen) (store : Store) (agrees : Agrees store new) (view : (q : ℕ) → was q ≡ laid old store q) (ordered : aim.first ≤ aim.last) (last : aim.last ≡ old.next) (small : old.next < 2 ^ 64) (free : IsFree was (aim_to new.next aim)) where
     -- no address was given

@@ -299,11 +299,6 @@ root_collapsed_puts was is is' level root before key value child bytes aim m add
     let apart = child_apart was is level root before key value child aim m address free in
     subst (λ (x : Option (List ℕ)). PutsTwo is is' root x child None) (sym here) (puts_turned (puts_two is is' child None root (Some bytes) (λ e. apart (sym e)) same))
 
--- and the root's last
-pub root_collapsed_puts_turned : (was is is' : Store) (level root : ℕ) (before : List Entry) (key value : List ℕ) (child : ℕ) (bytes : List ℕ) (aim : Aim) → Mending was is (suc level) root root_bounds before ((key, value) ∷ []) aim → IsAddress value child → IsFree was aim → is child ≡ Some bytes → ((q : ℕ) → is' q ≡ overlaid ((root, Some bytes) ∷ (child, None) ∷ []) is q) → PutsTwo is is' root (is child) child None
-root_collapsed_puts_turned was is is' level root before key value child bytes aim m address free here same =
-    subst (λ (x : Option (List ℕ)). PutsTwo is is' root x child None) (sym here) (puts_two is is' root (Some bytes) child None (child_apart was is level root before key value child aim m address free) same)
-
 -- ---- the root is left without entries
 
 no_pairs : (content : Values) → map.entries content ≡ [] → content ≡ map.empty
@@ -331,12 +326,6 @@ root_emptied was is is' root before aim content has m free puts =
       | inr (inr given) ↦ Contains-nil q (subst (λ (l : List ℕ). Contains l q) m.below_is.1 (m.uses q given))
     ]))
     (λ q from below. absurd (Contains-nil q (subst (λ (l : List ℕ). Contains l q) m.below_is.1 (m.uses q (from, below)))))
-
--- its content has no pair then
-pub root_emptied_content : (was is : Store) (root : ℕ) (before : List Entry) (aim : Aim) (content : Values) → HasContent was root content → Mending was is 0 root root_bounds before [] aim → changed_content aim.key aim.value content ≡ map.empty
-root_emptied_content was is root before aim content has m =
-    no_pairs (changed_content aim.key aim.value content)
-    (entries_changed aim.key aim.value content ∙ ap (λ (es : List Entry). edited aim.key aim.value es) (pairs_of_content was 0 root m.old_pairs (root ∷ m.old_nodes) content (mending_held was is 0 root root_bounds before [] aim m) has) ∙ sym m.pairs ∙ m.below_is.0)
 
 -- ---- the first leaf
 

@@ -59,10 +59,6 @@ module _ (was is : Store) (level at : ℕ) (bounds : Bounds) (before after : Lis
     | inr given ↦ absurd (omega (arith, given.1))
   ]
 
-  -- its block isn't changed yet
-  pub mending_same : IsFree was aim → is at ≡ was at
-  mending_same free = m.elsewhere at mending_apart (λ given. mending_filled at (Contains-head at m.old_nodes) (free at given))
-
 -- the child of an entry that the node in hand had was filled
 pub mending_child_filled : (was is : Store) (level at : ℕ) (bounds : Bounds) (before after : List Entry) (aim : Aim) → Mending was is (suc level) at bounds before after aim → (entry : Entry) (child : ℕ) → Contains before entry → IsAddress entry.1 child → was child ≢ None
 mending_child_filled was is level at bounds before after aim m entry child among address none =
@@ -261,9 +257,3 @@ pub split_puts : (was is is' : Store) (level at : ℕ) (bounds : Bounds) (before
 split_puts was is is' level at bounds before after left right aim m ordered free same =
     let filled = mending_filled was is level at bounds before after aim m at (Contains-head at m.old_nodes) in
     puts_turned (puts_two is is' aim.last (Some (node_bytes level right)) at (Some (node_bytes level left)) (λ e. filled (ap was e ∙ free aim.last (ordered, omega arith))) same)
-
--- and the fresh one first
-pub split_puts_turned : (was is is' : Store) (level at : ℕ) (bounds : Bounds) (before after left right : List Entry) (aim : Aim) → Mending was is level at bounds before after aim → aim.first ≤ aim.last → IsFree was (given_more 1 aim) → ((q : ℕ) → is' q ≡ overlaid ((at, Some (node_bytes level left)) ∷ (aim.last, Some (node_bytes level right)) ∷ []) is q) → PutsTwo is is' at (Some (node_bytes level left)) aim.last (Some (node_bytes level right))
-split_puts_turned was is is' level at bounds before after left right aim m ordered free same =
-    let filled = mending_filled was is level at bounds before after aim m at (Contains-head at m.old_nodes) in
-    puts_two is is' at (Some (node_bytes level left)) aim.last (Some (node_bytes level right)) (λ e. filled (ap was (sym e) ∙ free aim.last (ordered, omega arith))) same

@@ -22,7 +22,7 @@ use Rattle.sea_tree.proofs.Frames.{IsSameOn, HasNode-kept, AllBelow-kept, AllBel
 use Rattle.sea_tree.proofs.Apart.{at_not_below, HasContent-beside, few_levels}
 use Rattle.sea_tree.proofs.MendNear.{IsNearPlace-edited}
 use Rattle.sea_tree.proofs.MendSides.{Sides, sides, sides_lower, sides_upper, sides_whole, sides_kept, sides_pairs, Contains-other_middle, puts_one}
-use Rattle.sea_tree.proofs.MendSplit.{IsFree, put_node, mending_held, mending_apart, mending_new_apart, mending_same}
+use Rattle.sea_tree.proofs.MendSplit.{IsFree, put_node, mending_held, mending_apart, mending_new_apart}
 
 -- ---- a leaf's entries are edited
 
@@ -85,12 +85,6 @@ fits_replaced was is is' level at bounds before after aim m free node filled sam
     let puts = puts_one is is' at (Some (node_bytes level after)) same in
     finished was is is' level at bounds before after aim m free puts.others
     (put_node is' level at bounds after puts.here node (record { filled = filled; lower = m.near.lower; upper = m.near.upper; first = λ h. (m.near.first h).1 }))
-
--- Where the node in hand is to have the entries that it had, nothing is written there, and the change is made.
-pub stays_replaced : (was is : Store) (level at : ℕ) (bounds : Bounds) (before after : List Entry) (aim : Aim) → Mending was is level at bounds before after aim → IsFree was aim → after ≡ before → Replaced was is level level at bounds aim
-stays_replaced was is level at bounds before after aim m free same =
-    let node : HasNode is level at bounds before = HasNode-kept was is level at bounds before (mending_same was is level at bounds before after aim m free) m.node in
-    finished was is is level at bounds before after aim m free (λ q apart. refl) (subst (HasNode is level at bounds) (sym same) node)
 
 -- ---- nothing changes above
 
@@ -168,20 +162,6 @@ IsDescent store (suc level) at bounds last_level last last_bounds =
     ((suc level ≡ last_level) × (at ≡ last) × (bounds ≡ last_bounds))
     ⊎ ((a : List Entry) × (e : Entry) × (b : List Entry) × (child : ℕ) × HasNode store (suc level) at bounds (a ++ (e ∷ b)) × IsAddress e.1 child
     × IsDescent store level child (child_bounds e b bounds.upper) last_level last last_bounds)
-
--- a descent goes on by one step
-pub descent_more : (store : Store) (level at : ℕ) (bounds : Bounds) (last_level last : ℕ) (last_bounds : Bounds) (a : List Entry) (e : Entry) (b : List Entry) (child : ℕ) → IsDescent store level at bounds (suc last_level) last last_bounds → HasNode store (suc last_level) last last_bounds (a ++ (e ∷ b)) → IsAddress e.1 child → IsDescent store level at bounds last_level child (child_bounds e b last_bounds.upper)
-descent_more store zero at bounds last_level last last_bounds a e b child descent node address = absurd (omega (arith, descent.0))
-descent_more store (suc level) at bounds last_level last last_bounds a e b child (inl end) node address =
-    let same : last_level ≡ level = omega (arith, end.0) in
-    let here : HasNode store (suc level) at bounds (a ++ (e ∷ b)) = subst (λ (l : ℕ). HasNode store (suc l) at bounds (a ++ (e ∷ b))) same (subst (λ (c : Bounds). HasNode store (suc last_level) at c (a ++ (e ∷ b))) (sym end.2) (subst (λ (x : ℕ). HasNode store (suc last_level) x last_bounds (a ++ (e ∷ b))) (sym end.1) node)) in
-    inr (a, e, b, child, here, address, ended level child (child_bounds e b bounds.upper) last_level (child_bounds e b last_bounds.upper) (sym same) (ap (λ (c : Bounds). child_bounds e b c.upper) end.2))
-  where
-    ended : (level at : ℕ) (bounds : Bounds) (last_level : ℕ) (last_bounds : Bounds) → level ≡ last_level → bounds ≡ last_bounds → IsDescent store level at bounds last_level at last_bounds
-    ended zero at bounds last_level last_bounds levels are = (levels, refl, are)
-    ended (suc level) at bounds last_level last_bounds levels are = inl (levels, refl, are)
-descent_more store (suc level) at bounds last_level last last_bounds a e b child (inr step) node address =
-    inr (step.0, step.1, step.2, step.3, step.4, step.5, descent_more store level step.3 (child_bounds step.1 step.2 bounds.upper) last_level last last_bounds a e b child step.6 node address)
 
 pub descent_none : (store : Store) (level at : ℕ) (bounds : Bounds) → IsDescent store level at bounds level at bounds
 descent_none store zero at bounds = (refl, refl, refl)

@@ -83,24 +83,9 @@ Descends-push s zero at bounds (first ∷ steps) key n q b step child below d do
 Descends-push s (suc level) at bounds (first ∷ steps) key n q b step child below d down =
     (d.0, d.1, d.2, Descends-push s level d.0 d.1 steps key n q b step child below d.3 down)
 
-pub Descends-pop : (s : Store) (level at : ℕ) (bounds : Bounds) (steps : List Step) (step : Step) (key : List ℕ) (n q : ℕ) (b : Bounds) → Descends s level at bounds (steps ++ step ∷ []) key n q b → (mid : ℕ) × (mb : Bounds) × Descends s level at bounds steps key (suc n) mid mb × StepsDown s n mid mb step key q b
-Descends-pop s zero at bounds [] step key n q b d = absurd d
-Descends-pop s (suc level) at bounds [] step key n q b d =
-    let down = subst (λ (l : ℕ). StepsDown s l at bounds step key d.0 d.1) d.3.0 d.2 in
-    let to = subst (λ (c : ℕ). StepsDown s n at bounds step key c d.1) d.3.1 down in
-    (at, bounds, (ap suc d.3.0, refl, refl), subst (λ (x : Bounds). StepsDown s n at bounds step key q x) d.3.2 to)
-Descends-pop s zero at bounds (first ∷ steps) step key n q b d = absurd d
-Descends-pop s (suc level) at bounds (first ∷ steps) step key n q b d =
-    let rest = Descends-pop s level d.0 d.1 steps step key n q b d.3 in
-    (rest.0, rest.1, (d.0, d.1, d.2, rest.2), rest.3)
-
 pub AreKnown-push : (seen : Seen) (steps : List Step) (step : Step) → AreKnown seen steps → IsKnown seen step.at.0 → AreKnown seen (steps ++ step ∷ [])
 AreKnown-push seen [] step known here = (here, tt)
 AreKnown-push seen (first ∷ steps) step known here = (known.0, AreKnown-push seen steps step known.1 here)
-
-pub AreKnown-pop : (seen : Seen) (steps : List Step) (step : Step) → AreKnown seen (steps ++ step ∷ []) → AreKnown seen steps × IsKnown seen step.at.0
-AreKnown-pop seen [] step known = (tt, known.0)
-AreKnown-pop seen (first ∷ steps) step known = let rest = AreKnown-pop seen steps step known.1 in ((known.0, rest.0), rest.1)
 
 -- ---- a path on every store that agrees
 

@@ -22,14 +22,14 @@ use Rattle.sea_tree.specs.declared.fault.TreeFault.TheVariants.{Space, Broken}
 use Rattle.sea_tree.specs.Tree.{NodeAt}
 use Rattle.sea_tree.specs.Calls.{IsUnchanged}
 use Rattle.sea_tree.specs.Does.{Change, Does, ChangesAtMost, is_among, ArePlaced, SplicesOnce}
-use Rattle.sea_tree.specs.Plan.{change_of, changes_of, fills, count_filled, Splices, spliced_before, plan_changes, one_filled, plan_fills, IsWritten, CanSplice}
+use Rattle.sea_tree.specs.Plan.{change_of, changes_of, fills, count_filled, Splices, spliced_before, plan_changes, one_filled, plan_fills, IsWritten}
 use Rattle.sea_tree.specs.declared.edit.Edit.{Edit}
 use Rattle.sea_tree.specs.declared.edit.Edit.TheVariants.{Pair, Moved}
 use Rattle.sea_tree.specs.Form.{IsSpliceOf, IsKept}
 use Rattle.sea_tree.proofs.Touched.{among_cases}
 use Rattle.sea_tree.proofs.Holding.{Contains-middle}
 use Rattle.sea_tree.proofs.MendNear.{put_leaf}
-use Rattle.sea_tree.proofs.Doing.{Does-then, Does-write, Does-known, overlaid-apart, ChangesAtMost-then, ChangesAtMost-write}
+use Rattle.sea_tree.proofs.Doing.{Does-then, Does-write, overlaid-apart, ChangesAtMost-then, ChangesAtMost-write}
 
 pub changes_more : (ws : List Write) (w : Write) → changes_of (ws ++ w ∷ []) ≡ change_of w ∷ changes_of ws
 changes_more ws w = ap reverse (map-append change_of ws (w ∷ [])) ∙ reverse-append (map change_of ws) (change_of w ∷ [])
@@ -55,10 +55,6 @@ pub splice_few : {a b c : Seen} (n : ℕ) (s : Splice) → ChangesAtMost n a b �
 splice_few {a} {b} {c} n s first last =
     subst (λ (k : ℕ). ChangesAtMost k a c) (omega arith) (ChangesAtMost-then n 1 first (ChangesAtMost-write s.at.0 (Some s.block) last))
 
--- and it still changes what stood there
-pub still_known : {a b : Seen} (ws : List Write) (s : Splice) → Splices a ws s → Does (changes_of ws) a b → IsKnown b s.at.0
-still_known ws s can done = Does-known (changes_of ws) done s.at.0 can.known
-
 pub still_makes : {a b : Seen} (ws : List Write) (s : Splice) → Splices a ws s → Does (changes_of ws) a b → option_map (spliced s.delta.cut s.delta.gone s.delta.put) (b.view s.at.0) ≡ Some s.block
 still_makes {a} {b} ws s can done =
     ap (option_map (spliced s.delta.cut s.delta.gone s.delta.put)) (done.view s.at.0 (inr can.known) ∙ overlaid-apart (changes_of ws) a.view s.at.0 can.alone) ∙ can.makes
@@ -81,9 +77,6 @@ nothing_filled plan writes splice = λ i. count_filled (writes i) + one_filled (
 -- without a splice a plan changes what its writes do
 pub unspliced : (s : Option Splice) (after before changes : List Change) → s ≡ None → after ≡ changes ++ before → spliced_before s after ≡ changes ++ spliced_before s before
 unspliced s after before changes none e = ap (λ (o : Option Splice). spliced_before o after) none ∙ e ∙ ap (λ (o : Option Splice). changes ++ spliced_before o before) (sym none)
-
-pub none_splices : (seen : Seen) (plan : Plan) → plan.splice ≡ None → CanSplice seen plan
-none_splices seen plan none = subst (λ (o : Option Splice). IfSome o (Splices seen plan.writes)) (sym none) tt
 
 -- ---- faults
 

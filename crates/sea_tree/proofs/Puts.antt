@@ -17,7 +17,6 @@ use Rattle.sea_tree.specs.declared.fault.TreeFault.TheVariants.{Space, Broken}
 use Rattle.sea_tree.specs.Tree.{root_bounds, IsNodeOf}
 use Rattle.sea_tree.specs.Content.{HasContent}
 use Rattle.sea_tree.specs.Breaks.{Breaks, IsBreakOnPath, IsFull, FillsFewer}
-use Rattle.sea_base.specs.declared.space.SpaceFault.TheVariants.{NoMemory}
 use Rattle.sea_tree.specs.Calls.{Meets, Becomes, ChangesOwn, ChangeFootprint, ChangeFailure, IsPathFault, IsChangeFault, IsPlanFault, IsUnchanged, IsWholePath, IsOfSpace}
 use Rattle.sea_tree.specs.Form.{HasForm, Plans}
 use Rattle.sea_tree.specs.Reads.{IsOnPath, ReadsPath, ReadsNear, ReadsNothing}
@@ -232,7 +231,3 @@ pub planned_fails : (root : ℕ) (key : List ℕ) (old mid new : Seen) → OnlyR
 planned_fails root key old mid new reads fault same cause =
     let blames = change_since root key old mid new reads fault cause in
     record { blames = blames; never_full = of_space root key old new fault blames; unchanged = unchanged_since (Does-read reads) new fault same }
-
--- where memory ran out
-pub memory_fails : (root : ℕ) (key : List ℕ) (old new : Seen) → ChangeFailure root key old new (Space NoMemory)
-memory_fails root key old new = record { blames = tt; never_full = λ store content meets few. tt; unchanged = tt }
