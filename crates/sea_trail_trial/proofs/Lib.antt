@@ -1,0 +1,3 @@
+pub mod PlainChains
+pub mod PlainHeaders
+pub mod PlainTrails

@@ -1,0 +1,5 @@
+mod agreement;
+mod both;
+mod chains;
+mod dice;
+mod refusals;
