@@ -9,3 +9,4 @@ pub mod Pasts
 pub mod Queues
 pub mod Journals
 pub mod Trials
+pub mod BlocksNow

@@ -4,7 +4,10 @@ ghost use Rattle.sea_trail.specs.Trail.{segment_end as end_of};
 ghost use Rattle.sea_journal.specs.Resume.{mount_body};
 
 use crate::queue::Queue;
-use sea_base::{Commit, Data, NoMemory, Root, Sequence, Tail};
+use sea_base::{
+    BLOCK_BYTES, Block, Commit, Data, NoMemory, Paddr, Root, Sequence, SpaceFault, Sum, Tail,
+    sum_of,
+};
 use sea_device::{Device, Failed};
 use sea_record::{Body, Kind};
 use sea_segment::Table;
@@ -34,20 +37,22 @@ pub struct Journal<D: Device> {
 }
 
 impl<D: Device> Journal<D> {
-    ghost use Rattle.std.specs.Prelude.{ℕ, ◌+◌, ◌-◌, ◌*◌, ◌<◌, List, Some, IfErr, OnOk, OnErr, MatchResult, length};
+    ghost use Rattle.std.specs.Prelude.{ℕ, ◌+◌, ◌-◌, ◌*◌, ◌<◌, List, Some, IfErr, IfSome, IsOk, OnOk, OnErr, MatchResult, length};
     ghost use Rattle.sea_device.specs.Device.{Torn};
     ghost use Rattle.sea_base.specs.Faults.{FaultsRose};
     ghost use Rattle.sea_record.specs.Record.{IsRecord, blocks};
     ghost use Rattle.sea_segment.specs.Table.{empty_of, live_of, with_live};
-    ghost use Rattle.sea_trail.specs.Trail.{IsTrail};
+    ghost use Rattle.sea_trail.specs.Trail.{IsTrail, block_of};
+    ghost use Rattle.sea_device.specs.Calls.{OnlyRead};
+    ghost use Rattle.sea_journal.specs.Blocks.{IsNotGiven, IsSumOf, IsUnread, image_now};
     ghost use Rattle.sea_journal.specs.Changes.{ChangesBy, CountsFaults};
     ghost use Rattle.sea_journal.specs.Journal.{HasLog, CrashesKeep, IsBegun, BlamesRightly};
     ghost use Rattle.sea_journal.specs.Queue.{BeginsBehind};
     ghost use Rattle.sea_journal.specs.Log.{Log, IsSynced, NamesTail, pushed};
     ghost use Rattle.sea_journal.specs.Resume.{CanResume, record_behind, mount_record, mounted};
 
-    /// Goes on behind the trail of a device, which was synced before it was read: writes a mount record
-    /// and syncs it. Where it fails it hands the device back.
+    /// Goes on behind the trail of a device, which was synced before it was read: writes a mount
+    /// record and syncs it. Where it fails it hands the device back.
     pub fn resume(
         alloc: Global,
         device: D,
@@ -118,8 +123,8 @@ impl<D: Device> Journal<D> {
         self.queue.push(body, tail, root)
     }
 
-    /// Writes what is queued, and syncs. With an empty queue it makes no call of the device. After a
-    /// fault the queue stays.
+    /// Writes what is queued, and syncs. With an empty queue it makes no call of the device. After
+    /// a fault the queue stays.
     pub fn sync(&mut self) -> Result<(), Failed>
         ensures idle { self.old.queue.place ≡ self.old.queue.start
             → (result ≡ Ok tt) × (self.new.device ≡ self.old.device) }
@@ -136,6 +141,52 @@ impl<D: Device> Journal<D> {
         ensures cause { CountsFaults (D.faults self.old.device) (D.faults self.new.device) result }
     {
         self.queue.write(&mut self.device)
+    }
+
+    /// The block at a place, from the queue where a queued record covers it, else from the device. It
+    /// is damaged where its sum isn't the one that was kept of it.
+    pub fn block(&mut self, at: Paddr, sum: Sum) -> Result<Block, SpaceFault>
+        requires { at.0 < D.size self.old.device }
+        ensures block { IfOk result (λ block. IfSome (D.contents self.old.device) (λ image.
+            block ≡ block_of (image_now self.old.queue image) at.0)) }
+        ensures sum { IfOk result (IsSumOf sum.0) }
+        ensures fault { IfErr result (IsNotGiven self.old.queue (D.contents self.old.device) at.0
+            sum.0 (D.faults self.old.device) (D.faults self.new.device)) }
+        ensures read { OnlyRead D.Device self.old.device self.new.device }
+        ensures queue { self.new.queue ≡ self.old.queue }
+        ensures log { (log : Log) → HasLog D.Device log self.old → HasLog D.Device log self.new }
+    {
+        let block = self.read(at)?;
+        let found = sum_of(&block);
+        if found != sum {
+            return Err(SpaceFault::Damaged {
+                block: at,
+                kept: sum,
+                found,
+            });
+        }
+        Ok(block)
+    }
+
+    // The block at a place, whatever its sum.
+    fn read(&mut self, at: Paddr) -> Result<Block, SpaceFault>
+        requires { at.0 < D.size self.old.device }
+        ensures block { IfOk result (λ block. IfSome (D.contents self.old.device) (λ image.
+            block ≡ block_of (image_now self.old.queue image) at.0)) }
+        ensures fault { IfErr result (IsUnread (D.faults self.old.device) (D.faults self.new.device)) }
+        ensures still { IsOk result → D.faults self.new.device ≡ D.faults self.old.device }
+        ensures read { OnlyRead D.Device self.old.device self.new.device }
+        ensures queue { self.new.queue ≡ self.old.queue }
+    {
+        let alloc = *self.queue.bytes.allocator();
+        if let Some(bytes) = self.queue.block(at) {
+            return Ok(Block::new(alloc, bytes)?);
+        }
+        let mut bytes = vec![in alloc; 0; BLOCK_BYTES].map_err(|_| SpaceFault::NoMemory)?;
+        if self.device.read(at, &mut bytes).is_err() {
+            return Err(SpaceFault::DeviceFault);
+        }
+        Ok(Block::from_vec(bytes)?)
     }
 
     /// How many segments are empty.

@@ -4,7 +4,7 @@ ghost use Rattle.sea_journal.specs.Resume.{IsBare};
 
 use super::*;
 use crate::fit::{is_root, is_tail};
-use sea_base::{Block, Commit, Data, NoMemory, Nths, Paddr, Sequence};
+use sea_base::{Commit, Data, NoMemory, Nths, Paddr, Sequence, SpaceFault, Sum};
 use sea_device::{Device, Failed, Fails, MemDevice};
 use sea_record::{Body, Kind};
 use sea_segment::Table;
@@ -107,6 +107,14 @@ fn lose(rt: &impl Abort, device: &mut MemDevice, places: &[u32]) -> Result<(), F
     Ok(())
 }
 
+// The sum of the first block behind the mount record, which the journal tells of a wrong one.
+fn sum_behind(journal: &mut Journal<MemDevice>) -> Sum {
+    match journal.block(Paddr(3), Sum(0)) {
+        Err(SpaceFault::Damaged { found, .. }) => found,
+        _ => Sum(0),
+    }
+}
+
 // How many openings and records the trail of a device counts, and where it ends.
 fn counts(alloc: Global, device: &mut MemDevice) -> Result<(u64, u64, u32), Fail> {
     let trail = scan(alloc, device)?;
@@ -164,6 +172,8 @@ fn a_failed_sync_is_made_again(rt: HostRuntime) -> Result<(), Fail> {
         push(&rt, &mut journal, &trail, plain(alloc, b"one")?)?,
         Commit(2)
     );
+    let queued = sum_behind(&mut journal);
+    assert!(rt; queued != Sum(0));
     assert_eq!(rt; journal.sync(), Err(Failed));
     assert_eq!(rt;
         push(&rt, &mut journal, &trail, plain(alloc, b"two")?)?,
@@ -171,6 +181,7 @@ fn a_failed_sync_is_made_again(rt: HostRuntime) -> Result<(), Fail> {
     );
     assert_eq!(rt; journal.sync(), Ok(()));
     assert_eq!(rt; journal.rest(), 2042);
+    assert_eq!(rt; sum_behind(&mut journal), queued);
     let mut device = journal.close();
     assert_eq!(rt; counts(alloc, &mut device)?, (1, 3, 7));
     Ok(())

@@ -38,9 +38,10 @@ pub struct Queue {
 }
 
 impl Queue {
-    ghost use Rattle.std.specs.Prelude.{List, ℕ, ◌*◌, ◌<◌, IfOk, OnOk, OnErr};
+    ghost use Rattle.std.specs.Prelude.{List, ℕ, ◌*◌, ◌<◌, IfOk, MatchOption, OnOk, OnErr};
     ghost use Rattle.sea_device.specs.Device.{Torn};
     ghost use Rattle.sea_record.specs.Record.{IsRecord, blocks};
+    ghost use Rattle.sea_journal.specs.Blocks.{IsQueued, queued_block};
     ghost use Rattle.sea_journal.specs.Changes.{ChangesBy, CountsFaults};
     ghost use Rattle.sea_journal.specs.Log.{Log, pushed};
     ghost use Rattle.sea_journal.specs.Queue.{Waits, BeginsBehind, IsEmptied, IsWritten, batch};
@@ -106,7 +107,8 @@ impl Queue {
     fn next_record(&self, body: Body, tail: Tail, root: Root) -> Record
         requires { IsRecord
             (record_behind self.now.place.0 self.now.seq self.now.link body tail root) }
-        ensures { result ≡ record_behind self.now.place.0 self.now.seq self.now.link body tail root }
+        ensures { result
+            ≡ record_behind self.now.place.0 self.now.seq self.now.link body tail root }
     {
         let opened = body.kind == Kind::Mount;
         Record {
@@ -128,8 +130,8 @@ impl Queue {
         (self.place.0 - self.start.0) as usize * BLOCK_BYTES
     }
 
-    /// Writes the records and a block of zeros behind them, or without it where they reach the end of
-    /// the segment, and syncs. With none it makes no call.
+    /// Writes the records and a block of zeros behind them, or without it where they reach the end
+    /// of the segment, and syncs. With none it makes no call.
     pub fn write<D: Device>(&mut self, device: &mut D) -> Result<(), Failed>
         requires { end_of self.old.active ≤ D.size device.old }
         ensures idle { self.old.place ≡ self.old.start
@@ -150,6 +152,19 @@ impl Queue {
         self.start = self.place;
         self.count = 0;
         Ok(())
+    }
+
+    /// The block at a place, where a queued record covers it.
+    pub fn block(&self, at: Paddr) -> Option<&[u8]>
+        ensures { MatchOption result (IsQueued self.now at.0 → ⊥) (λ block.
+            IsQueued self.now at.0 × (block.now ≡ queued_block self.now at.0)
+            × (length block.now ≡ 4096)) }
+    {
+        if at.0 < self.start.0 || at.0 >= self.place.0 {
+            return None;
+        }
+        let from = BLOCK_BYTES * (at.0 - self.start.0) as usize;
+        Some(&self.bytes[from..from + BLOCK_BYTES])
     }
 
     // What is written at once.
