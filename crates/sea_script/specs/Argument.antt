@@ -53,5 +53,6 @@ bad BytesKind = BadHex
 -- the first word that isn't of its kind
 abbrev pub IsFirstBad : List Kind → List (List ℕ) → ScriptWhy → Type 0
 IsFirstBad (kind ∷ kinds) (word ∷ words) why =
-    ((IsOfKind kind word → ⊥) × (why ≡ bad kind)) ⊎ (IsOfKind kind word × IsFirstBad kinds words why)
+    ((IsOfKind kind word → ⊥) × (why ≡ bad kind))
+    ⊎ (IsOfKind kind word × IsFirstBad kinds words why)
 IsFirstBad _ _ why = ⊥

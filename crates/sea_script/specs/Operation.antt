@@ -66,7 +66,8 @@ HasNoForm words = (called : Verb) (others : List (List ℕ)) → HasForm words c
 -- one of the words behind an operation's own is the first that isn't of its kind
 abbrev pub HasBadWord : List (List ℕ) → ScriptWhy → Type 0
 HasBadWord words why =
-    (called : Verb) × (others : List (List ℕ)) × HasForm words called others × IsFirstBad (kinds_for called (length others)) others why
+    (called : Verb) × (others : List (List ℕ)) × HasForm words called others
+    × IsFirstBad (kinds_for called (length others)) others why
 
 -- why words spell no operation: they have no form, or else a bad word
 abbrev pub IsOpFault : List (List ℕ) → ScriptWhy → Type 0

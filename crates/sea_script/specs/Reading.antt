@@ -43,16 +43,19 @@ Says kind word a = IsArgument a × (kind_of a ≡ kind) × (word ≡ argument_te
 
 -- a row of the table, as these words have it of its operation
 abbrev pub IsRow : Bor (List ℕ) × Verb × Bor (List Kind) × Further → Type 0
-IsRow row = (row.0.now ≡ word_of row.1) × (row.2.now ≡ first_kinds row.1) × (row.3 ≡ further_of row.1)
+IsRow row = (row.0.now ≡ word_of row.1) × (row.2.now ≡ first_kinds row.1)
+    × (row.3 ≡ further_of row.1)
 
 -- the parts of the operation, read from the words behind its own
 abbrev pub AreRead : Verb → List (List ℕ) → List Argument → Type 0
 AreRead called words arguments =
-    IsCount called (length arguments) × (kinds arguments ≡ kinds_for called (length arguments)) × AllByRecursion IsArgument arguments × (words ≡ map argument_text arguments)
+    IsCount called (length arguments) × (kinds arguments ≡ kinds_for called (length arguments))
+    × AllByRecursion IsArgument arguments × (words ≡ map argument_text arguments)
 
 -- the same, or why there are none: so many words may not stand there, or one is the first bad one
 abbrev pub ReadsArguments : Verb → List (List ℕ) → Result (List Argument) LineFault → Type 0
 ReadsArguments called words (Ok arguments) = AreRead called words arguments
 ReadsArguments called words (Err NoMemory) = Unit {0}
 ReadsArguments called words (Err (Why why)) =
-    ((IsCount called (length words) → ⊥) × (why ≡ BadOp)) ⊎ (IsCount called (length words) × IsFirstBad (kinds_for called (length words)) words why)
+    ((IsCount called (length words) → ⊥) × (why ≡ BadOp))
+    ⊎ (IsCount called (length words) × IsFirstBad (kinds_for called (length words)) words why)

@@ -62,7 +62,8 @@ AddsRequest asked old new (Ok done) =
     HasTurn old asked × HasWeight old asked × (new ≡ record old { asked = old.asked ++ asked ∷ [] })
 AddsRequest asked old new (Err NoMemory) = Unit {0}
 AddsRequest asked old new (Err (Why why)) =
-    ((why ≡ ManyRequests) × (HasTurn old asked → ⊥)) ⊎ ((why ≡ MuchRead) × HasTurn old asked × (HasWeight old asked → ⊥))
+    ((why ≡ ManyRequests) × (HasTurn old asked → ⊥))
+    ⊎ ((why ≡ MuchRead) × HasTurn old asked × (HasWeight old asked → ⊥))
 
 -- what a line adds, or why it is refused
 abbrev pub AddsLine : Bool → List ℕ → Given → Given → Result (Unit {0}) LineFault → Type 0

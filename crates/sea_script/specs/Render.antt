@@ -63,7 +63,8 @@ abbrev pub IsItem : Item → Type 0
 IsItem (Bytes bytes) = AreBytes bytes
 IsItem (Number n) = n < 2 ^ 32
 IsItem (Names names) = (length names < 2 ^ 64) × AllByRecursion AreBytes names
-IsItem (Pairs pairs) = (length pairs < 2 ^ 64) × AllByRecursion (λ pair. AreBytes pair.0 × AreBytes pair.1) pairs
+IsItem (Pairs pairs) = (length pairs < 2 ^ 64)
+    × AllByRecursion (λ pair. AreBytes pair.0 × AreBytes pair.1) pairs
 IsItem _ = Unit {0}
 
 abbrev pub IsReplyValue : Reply → Type 0
@@ -79,4 +80,6 @@ pub record IsEntry (entry : Entry) : Type 0 where
 -- two different histories never have the same text
 abbrev pub TellsApart : Type 0
 TellsApart =
-    (h k : List Entry) (s t : ℕ) → AllByRecursion IsEntry h → AllByRecursion IsEntry k → length h < 2 ^ 64 → length k < 2 ^ 64 → s < 2 ^ 64 → t < 2 ^ 64 → history_text h s ≡ history_text k t → (h ≡ k) × (s ≡ t)
+    (h k : List Entry) (s t : ℕ) → AllByRecursion IsEntry h → AllByRecursion IsEntry k
+    → length h < 2 ^ 64 → length k < 2 ^ 64 → s < 2 ^ 64 → t < 2 ^ 64
+    → history_text h s ≡ history_text k t → (h ≡ k) × (s ≡ t)

@@ -154,20 +154,26 @@ GivesNothing line given new = IsBlank line × (new ≡ given)
 
 abbrev pub GivesRequest : List ℕ → Given → Given → Type 0
 GivesRequest line given new =
-    (asked : Asked) × IsForRequest given line × Asks (words line) asked × HasTurn given asked × HasWeight given asked × (new ≡ record given { asked = given.asked ++ asked ∷ [] })
+    (asked : Asked) × IsForRequest given line × Asks (words line) asked × HasTurn given asked
+    × HasWeight given asked × (new ≡ record given { asked = given.asked ++ asked ∷ [] })
 
 abbrev pub GivesSchedule : Bool → List ℕ → Given → Given → Type 0
 GivesSchedule scheduled line given new =
-    IsBefore given line × (line ≡ codes "schedule") × (scheduled ≡ true) × (new ≡ record given { events = Some [] })
+    IsBefore given line × (line ≡ codes "schedule") × (scheduled ≡ true)
+    × (new ≡ record given { events = Some [] })
 
 abbrev pub GivesEvents : List ℕ → Given → Given → Type 0
 GivesEvents line given new =
-    (old : List Event) × (events : List Event) × IsFilled line × (given.events ≡ Some old) × OneByOne StandsFor (words line) events × (new ≡ record given { events = Some (old ++ events) })
+    (old : List Event) × (events : List Event) × IsFilled line × (given.events ≡ Some old)
+    × OneByOne StandsFor (words line) events
+    × (new ≡ record given { events = Some (old ++ events) })
 
 -- what a line adds to what those before it give
 abbrev pub Gives : Bool → List ℕ → Given → Given → Type 0
 Gives scheduled line given new =
-    GivesNothing line given new ⊎ (GivesRequest line given new ⊎ (GivesSchedule scheduled line given new ⊎ GivesEvents line given new))
+    GivesNothing line given new
+    ⊎ (GivesRequest line given new
+    ⊎ (GivesSchedule scheduled line given new ⊎ GivesEvents line given new))
 
 -- what lines give, one after the other
 abbrev pub AllGive : Bool → List (List ℕ) → Given → Given → Type 0
@@ -199,7 +205,8 @@ pub record IsScript (scheduled : Bool) (input : List ℕ) (script : Script) : Ty
 -- a client is named, and what stands behind it doesn't spell operations
 abbrev pub HasOpFault : List (List ℕ) → ScriptWhy → Type 0
 HasOpFault said why =
-    (client : ℕ) × (others : List (List ℕ)) × Names said client others × IsFirstFault (parts others) why
+    (client : ℕ) × (others : List (List ℕ)) × Names said client others
+    × IsFirstFault (parts others) why
 
 -- operations are spelled that are no request
 abbrev pub HasRequestFault : List (List ℕ) → RequestFault → Type 0
@@ -208,7 +215,8 @@ HasRequestFault said why =
 
 -- why the words of a line ask for no request, in the order of these reasons
 abbrev pub IsNoRequest : ScriptWhy → List (List ℕ) → Given → Type 0
-IsNoRequest BadClient said given = (client : ℕ) (others : List (List ℕ)) → Names said client others → ⊥
+IsNoRequest BadClient said given = (client : ℕ) (others : List (List ℕ)) → Names said client others
+    → ⊥
 IsNoRequest BadOp said given = HasOpFault said BadOp
 IsNoRequest BadName said given = HasOpFault said BadName
 IsNoRequest BadNumber said given = HasOpFault said BadNumber
@@ -218,7 +226,8 @@ IsNoRequest BadRange said given = (op : ℕ) × HasRequestFault said (fault.BadR
 IsNoRequest BadValue said given = (op : ℕ) × HasRequestFault said (fault.BadValue op)
 IsNoRequest TooManyBlocks said given = HasRequestFault said fault.TooManyBlocks
 IsNoRequest TooManyKeys said given = HasRequestFault said fault.TooManyKeys
-IsNoRequest TooManyRequests said given = (asked : Asked) × Asks said asked × (HasTurn given asked → ⊥)
+IsNoRequest TooManyRequests said given = (asked : Asked) × Asks said asked
+    × (HasTurn given asked → ⊥)
 IsNoRequest TooMuchRead said given =
     (asked : Asked) × Asks said asked × HasTurn given asked × (HasWeight given asked → ⊥)
 IsNoRequest _ said given = ⊥
@@ -246,4 +255,5 @@ pub record IsFirstRefused (scheduled : Bool) (input : List ℕ) (number : ℕ) (
 abbrev pub IsRefusal : Bool → List ℕ → ScriptFault → Type 0
 IsRefusal scheduled input NoMemory = Unit {0}
 IsRefusal scheduled input (Refused number why) =
-    ((why ≡ TooLong) × (number ≡ 0) × (67108864 < length input)) ⊎ ((length input ≤ 67108864) × IsFirstRefused scheduled input number why)
+    ((why ≡ TooLong) × (number ≡ 0) × (67108864 < length input))
+    ⊎ ((length input ≤ 67108864) × IsFirstRefused scheduled input number why)

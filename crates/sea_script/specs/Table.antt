@@ -69,7 +69,8 @@ further_kind _ index = Name
 
 -- whether so many words may stand behind an operation's own, and their kinds
 abbrev pub IsCount : Verb → ℕ → Type 0
-IsCount verb n = (length (first_kinds verb) ≤ n) × MayFollow (further_of verb) (n - length (first_kinds verb))
+IsCount verb n = (length (first_kinds verb) ≤ n)
+    × MayFollow (further_of verb) (n - length (first_kinds verb))
 
 abbrev pub kinds_for : Verb → ℕ → List Kind
 kinds_for verb n = first_kinds verb ++ further_kinds (further_of verb) (n - length (first_kinds verb))
