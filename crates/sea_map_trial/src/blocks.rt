@@ -2,22 +2,23 @@
 ghost use Rattle.sea_ptree.specs.Blocks.{HasSum};
 
 use sea_base::{Block, NoMemory, Paddr, SpaceFault, Sum, sum_of};
-use sea_ptree::Blocks;
+use sea_ptree::{Blocks, Checked};
 use std::alloc::Global;
 
-/// A block with its sum.
+/// A block that was checked, with its sum.
 #[derive(Drop)]
 pub struct Kept {
-    block: Block,
+    checked: Checked,
     sum: Sum,
-    ghost holds: { HasSum block sum.0 },
+    ghost holds: { HasSum checked sum.0 },
 }
 
 impl Kept {
-    /// The block with its sum, which is computed here.
+    /// The block, which is checked here, with its sum, which is computed here.
     pub fn new(block: Block) -> Kept {
         let sum = sum_of(&block);
-        Kept { block, sum }
+        let checked = Checked::new(block);
+        Kept { checked, sum }
     }
 }
 
@@ -75,7 +76,7 @@ impl Blocks for MemBlocks {
 
     ghost held = { λ s. record { image = λ _. []; tells = false; faults = s.faults } };
 
-    fn block(&mut self, at: Paddr, sum: Sum) -> Result<Block, SpaceFault> {
+    fn block(&mut self, at: Paddr, sum: Sum) -> Result<Checked, SpaceFault> {
         if self.fails == Some(at) {
             self.faults = self.faults.saturating_add(1);
             return Err(SpaceFault::DeviceFault);
@@ -91,6 +92,6 @@ impl Blocks for MemBlocks {
                 found: kept.sum,
             });
         }
-        Ok(kept.block.share()?)
+        Ok(kept.checked.share()?)
     }
 }

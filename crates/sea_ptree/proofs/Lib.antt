@@ -7,6 +7,7 @@ pub mod Items
 pub mod Layings
 pub mod Lookups
 pub mod Makings
+pub mod Marks
 pub mod Mendings
 pub mod Merges
 pub mod Moves

@@ -3,6 +3,7 @@ pub mod Faults
 pub mod Fresh
 pub mod Laying
 pub mod Making
+pub mod Mark
 pub mod Mending
 pub mod Merging
 pub mod Moving

@@ -2,7 +2,8 @@
 ghost use Rattle.std.specs.Prelude.{◌≡◌, OnOk, IfOk, IfErr};
 ghost use Rattle.sea_ptree.specs.Blocks.{Held, IsBlock, IsBlockFault, Keeps};
 
-use sea_base::{Block, Paddr, SpaceFault, Sum};
+use crate::Checked;
+use sea_base::{Paddr, SpaceFault, Sum};
 
 /// Blocks under their places, each read by the sum that was kept of it.
 pub trait Blocks {
@@ -10,8 +11,9 @@ pub trait Blocks {
     /// were. The count of faults never falls, and stands still at 2^64 - 1.
     ghost held: { Self → Held };
 
-    /// The block at a place, if it has the sum.
-    fn block(&mut self, at: Paddr, sum: Sum) -> Result<Block, SpaceFault>
+    /// The block at a place, if it has the sum. Who keeps blocks keeps them checked, so that each
+    /// is tested once and not at each visit.
+    fn block(&mut self, at: Paddr, sum: Sum) -> Result<Checked, SpaceFault>
         ensures block { IfOk result (IsBlock (held self.old) at.0 sum.0) }
         ensures fault { IfErr result (IsBlockFault (held self.old) (held self.new) at.0 sum.0) }
         ensures kept { Keeps (held self.old) (held self.new) }

@@ -2,12 +2,14 @@
 #![tactic(auto)]
 
 mod blocks;
+mod checked;
 mod fault;
 mod kind;
 mod laying;
 mod link;
 mod lookup;
 mod making;
+mod mark;
 mod mending;
 mod merging;
 mod node;
@@ -18,6 +20,7 @@ mod view;
 mod walking;
 
 pub use blocks::Blocks;
+pub use checked::Checked;
 pub use fault::PFault;
 pub use kind::Kind;
 use link::Link;

@@ -4,7 +4,8 @@ ghost use Rattle.sea_ptree.specs.Reading.{AreRead};
 ghost use Rattle.sea_ptree.specs.Node.{Entry, IsNode, Spells, entry_bytes, node_bytes};
 
 use crate::Kind;
-use crate::reading::{ENTRY_BYTES, FRONT_BYTES, LEVEL_AT, entry_at, entry_count};
+use crate::mark::Mark;
+use crate::reading::{ENTRY_BYTES, FRONT_BYTES, entry_at};
 use sea_base::{BLOCK_BYTES, Block, NoMemory, Sequence, Slot, put_u16, put_u32, put_u64};
 use std::alloc::Global;
 
@@ -29,16 +30,15 @@ impl Node {
         ensures none { IfOk result (λ found. IfNone found ((level : ℕ) (entries : List Entry)
             → Spells kind block.now level entries → ⊥)) }
     {
-        let level = u32::from(block.bytes()[LEVEL_AT]);
-        if level > 7 {
-            return Ok(None);
-        }
-        let Some(count) = entry_count(block, kind, level) else {
+        let Some(mark) = Mark::of(block) else {
             return Ok(None);
         };
-        let entries = read_entries(alloc, block, count)?;
+        if mark.kind != kind {
+            return Ok(None);
+        }
+        let entries = read_entries(alloc, block, mark.count)?;
         Ok(Some(Node {
-            level,
+            level: mark.level,
             entries: Entries::from_vec(entries),
         }))
     }

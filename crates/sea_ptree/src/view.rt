@@ -4,7 +4,7 @@ ghost use Rattle.sea_ptree.specs.Faults.{Reads, IsNodeFault};
 ghost use Rattle.sea_ptree.specs.Node.{Entry};
 ghost use Rattle.sea_ptree.specs.Tree.{NodeAt, Guides, IsBelowNext};
 
-use crate::reading::{entry_at, entry_count};
+use crate::reading::entry_at;
 use crate::{Blocks, Kind, Link, PFault};
 use sea_base::{Block, Slot};
 
@@ -36,11 +36,11 @@ impl View {
             (B.held blocks.new) level link) }
         ensures kept { Reads (B.held blocks.old) (B.held blocks.new) result }
     {
-        let block = blocks.block(link.at, link.sum)?;
-        let Some(count) = entry_count(&block, kind, level) else {
+        let checked = blocks.block(link.at, link.sum)?;
+        let Some(view) = checked.into_view(kind, level) else {
             return Err(PFault::NoNode { block: link.at });
         };
-        Ok(View { block, count })
+        Ok(view)
     }
 
     /// The last entry whose key is not above a key.

@@ -60,7 +60,7 @@ fn read_node(
     found: &mut Found,
 ) -> Result<(), TrialFault> {
     let block = blocks.block(at, sum).map_err(|_| TrialFault::Runtime)?;
-    let node = Node::parse(alloc, Kind::Mapping, &block)?.ok_or(TrialFault::NoLevel)?;
+    let node = Node::parse(alloc, Kind::Mapping, block.block())?.ok_or(TrialFault::NoLevel)?;
     let entries = node.entries.into_vec();
     if node.level != level || entries.len() < least {
         found.good = false;
@@ -92,7 +92,7 @@ pub fn first_leaf(alloc: Global, tree: &mut MapTree) -> Result<Vec<(u64, Slot)>,
     let mut sum = root.sum;
     for _ in 0..root.height {
         let block = tree.blocks.block(at, sum).map_err(|_| TrialFault::Runtime)?;
-        let node = Node::parse(alloc, Kind::Mapping, &block)?.ok_or(TrialFault::NoLevel)?;
+        let node = Node::parse(alloc, Kind::Mapping, block.block())?.ok_or(TrialFault::NoLevel)?;
         entries = node.entries.into_vec();
         let first = entries.first().ok_or(TrialFault::NoLevel)?;
         at = first.1.at;
