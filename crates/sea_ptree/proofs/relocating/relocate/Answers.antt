@@ -1,11 +1,9 @@
-use Rattle.std.proofs.Common.{◌≡◌, ◌-◌, ◌++◌, ℕ, suc, List, sym, ap, subst, ◌∙◌, arith}
+use Rattle.std.proofs.Common.{◌≡◌, ◌-◌, ℕ, suc, List, subst, arith}
 use Rattle.std.proofs.lemmas.Result.{err_from_is_err_and}
 use Rattle.sea_base.specs.declared.space.SpaceFault.TheVariants.{NoMemory}
 use Rattle.sea_ptree.specs.declared.fault.PFault.TheVariants.{Space}
 use Rattle.sea_ptree.specs.declared.kind.Kind.{Kind}
 use Rattle.sea_ptree.specs.Faults.{IsFaultBelow, IsFaultFrom}
-use Rattle.sea_base.specs.declared.place.Paddr.{Paddr}
-use Rattle.sea_ptree.specs.declared.link.Link.{Link}
 use Rattle.sea_ptree.specs.Making.{Wrote}
 use Rattle.sea_ptree.specs.Node.{Entry}
 use Rattle.sea_ptree.specs.Tree.{Has, root_link}

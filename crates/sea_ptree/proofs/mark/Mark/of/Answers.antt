@@ -1,4 +1,4 @@
-use Rattle.std.proofs.Common.{ℕ, List, get_or, sym, ap, ◌∙◌, arith}
+use Rattle.std.proofs.Common.{ℕ, List, get_or, ap, arith}
 use Rattle.sea_ptree.proofs.Fronts.{spelled_level}
 use Rattle.sea_ptree.proofs.Marks.{no_node}
 use Rattle.sea_ptree.proofs.mark.Mark.of.Goals as goal
