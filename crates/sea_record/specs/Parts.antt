@@ -1,5 +1,6 @@
 -- What the parts of a record that are read stand for.
-use Rattle.std.specs.Prelude.{◌≡◌, ℕ, ◌+◌, ◌*◌, ◌/◌, ◌^◌, ◌<◌, ◌≤◌, ◌==◌, if◌then◌else◌, List, ◌++◌, length, take, drop, replicate, map, slice_range}
+use Rattle.std.specs.Prelude.{◌≡◌, ℕ, ◌+◌, ◌*◌, ◌/◌, ◌^◌, ◌<◌, ◌≤◌, ◌==◌, if◌then◌else◌, List, ◌++◌}
+use Rattle.std.specs.Prelude.{length, take, drop, replicate, map, slice_range}
 use Rattle.std.specs.List.{All}
 use Rattle.sea_base.specs.Digest.{sha256}
 use Rattle.sea_record.specs.Entries.{mark_bytes, address_bytes, change_bytes, counted}
@@ -25,7 +26,8 @@ BeginsWithNo {A} fits spelled bytes =
     (x : A) (rest : List ℕ) → fits x → bytes ≡ spelled x ++ rest → ⊥
 
 -- the bytes are those of a list, and the rest
-pub record BeginsWithList {A : Type 0} (fits : A → Type 0) (spelled : A → List ℕ) (bytes : List ℕ) (items : List A) (rest : List ℕ) : Type 0 where
+pub record BeginsWithList {A : Type 0} (fits : A → Type 0) (spelled : A → List ℕ)
+    (bytes : List ℕ) (items : List A) (rest : List ℕ) : Type 0 where
   pub few : length items < 2 ^ 32
   pub all : All fits items
   pub is : bytes ≡ counted spelled items ++ rest

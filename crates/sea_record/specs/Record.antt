@@ -1,5 +1,6 @@
 -- Records: the rules of their fields, and how bytes spell them.
-use Rattle.std.specs.Prelude.{◌≡◌, ℕ, ◌+◌, ◌-◌, ◌*◌, ◌/◌, ◌^◌, ◌<◌, ◌≤◌, ◌==◌, if◌then◌else◌, List, ◌++◌, length, map, take, replicate}
+use Rattle.std.specs.Prelude.{◌≡◌, ℕ, ◌+◌, ◌-◌, ◌*◌, ◌/◌, ◌^◌, ◌<◌, ◌≤◌, ◌==◌, if◌then◌else◌, List}
+use Rattle.std.specs.Prelude.{◌++◌, length, map, take, replicate}
 use Rattle.std.specs.List.{All, flat_map}
 use Rattle.sea_base.specs.Digest.{sha256}
 use Rattle.sea_base.specs.Field.{big_endian}
@@ -87,8 +88,8 @@ changed_at body = map (λ c. c.at.0) body.changes
 abbrev pub HasAddresses : ℕ → Body → Type 0
 HasAddresses next body = AreOrdered next (placed_at body) (dropped_at body) (changed_at body)
 
--- The metadata. Where nothing is placed, dropped or changed it is the plain bytes, which only a plain
--- record has.
+-- The metadata. Where nothing is placed, dropped or changed it is the plain bytes, which only a
+-- plain record has.
 unfoldable pub metadata : Body → List ℕ
 metadata body =
     if listed body == 0 then body.plain

@@ -1,9 +1,11 @@
 //! The entries of the lists in a record's metadata.
-ghost use Rattle.std.specs.Prelude.{◌≡◌, ℕ, ◌+◌, ◌≤◌, ◌↔◌, ◌++◌, List, IsTrue, OnOk, IfOk, MatchOption};
+ghost use Rattle.std.specs.Prelude.{◌≡◌, ℕ, ◌+◌, ◌≤◌, ◌↔◌, ◌++◌, List, IsTrue, OnOk, IfOk};
+ghost use Rattle.std.specs.Prelude.{MatchOption};
 ghost use Rattle.sea_record.specs.Entries.{mark_bytes, address_bytes, change_bytes};
 ghost use Rattle.sea_record.specs.Parts.{Begins, BeginsWithNo};
 ghost use Rattle.sea_record.specs.Record.{IsChange};
-ghost use Rattle.sea_record.specs.EntryLaws.{IsMark, IsAddress, IsListed, same_mark, same_address, same_change};
+ghost use Rattle.sea_record.specs.EntryLaws.{IsMark, IsAddress, IsListed, same_mark, same_address};
+ghost use Rattle.sea_record.specs.EntryLaws.{same_change};
 
 use crate::Change;
 use sea_base::{

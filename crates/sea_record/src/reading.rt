@@ -1,5 +1,6 @@
 //! Records read from bytes.
-ghost use Rattle.std.specs.Prelude.{◌≡◌, ◌+◌, ◌≤◌, ◌↔◌, length, List, ℕ, ◌++◌, ◌*◌, IfOk, IfSome, IsTrue, MatchOption};
+ghost use Rattle.std.specs.Prelude.{◌≡◌, ◌+◌, ◌≤◌, ◌↔◌, length, List, ℕ, ◌++◌, ◌*◌, IfOk, IfSome};
+ghost use Rattle.std.specs.Prelude.{IsTrue, MatchOption};
 ghost use Rattle.sea_record.specs.Parts.{BeginsWithHeader, IsSealed, IsSpelled};
 ghost use Rattle.sea_record.specs.declared.record.Record.{Record};
 ghost use Rattle.sea_record.specs.Record.{BeginsWith, BeginsWithNone};
@@ -36,7 +37,8 @@ pub fn decode(alloc: Global, bytes: &[u8]) -> Result<Option<Record>, NoMemory>
 
 // The record that a prefix of the bytes spells, whose fields may break the rules.
 fn read_record(alloc: Global, bytes: &[u8]) -> Result<Option<Record>, NoMemory>
-    ensures { IfOk result (λ found. MatchOption found (BeginsWithNone bytes.now) (IsSpelled bytes.now)) }
+    ensures { IfOk result (λ found.
+        MatchOption found (BeginsWithNone bytes.now) (IsSpelled bytes.now)) }
 {
     let Some(header) = read_header(bytes) else {
         return Ok(None);

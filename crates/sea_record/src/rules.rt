@@ -3,7 +3,8 @@ ghost use Rattle.std.specs.Prelude.{◌≡◌, ◌≤◌, ◌↔◌, ◌^◌, �
 ghost use Rattle.sea_base.specs.Digest.{sha256};
 ghost use Rattle.sea_base.specs.Field.{big_endian};
 ghost use Rattle.sea_record.specs.Parts.{Fits, HasNumbers, HasSum};
-ghost use Rattle.sea_record.specs.Record.{IsRecord, IsOfKind, HasAddresses, placed_at, dropped_at, changed_at, listed};
+ghost use Rattle.sea_record.specs.Record.{IsRecord, IsOfKind, HasAddresses, placed_at, dropped_at};
+ghost use Rattle.sea_record.specs.Record.{changed_at, listed};
 
 use crate::addresses::are_ordered;
 use crate::{Body, Kind, Placed, Record};

@@ -1,9 +1,12 @@
 //! Records written as bytes.
-ghost use Rattle.std.specs.Prelude.{◌≡◌, ◌+◌, ◌-◌, ◌*◌, ◌^◌, ◌<◌, ◌≤◌, ◌++◌, length, replicate, All, OnOk, IfOk};
+ghost use Rattle.std.specs.Prelude.{◌≡◌, ◌+◌, ◌-◌, ◌*◌, ◌^◌, ◌<◌, ◌≤◌, ◌++◌, length, replicate};
+ghost use Rattle.std.specs.Prelude.{All, OnOk, IfOk};
 ghost use Rattle.std.specs.List.{flat_map};
 ghost use Rattle.sea_record.specs.Entries.{counted, mark_bytes};
 ghost use Rattle.sea_record.specs.Parts.{mark_of};
-ghost use Rattle.sea_record.specs.Record.{IsChange, IsRecord, header_of, blocks, metadata, metadata_blocks, payload, payload_blocks, record_bytes, zeros};
+ghost use Rattle.sea_record.specs.Record.{IsChange, IsRecord, header_of, blocks, metadata};
+ghost use Rattle.sea_record.specs.Record.{metadata_blocks, payload, payload_blocks, record_bytes};
+ghost use Rattle.sea_record.specs.Record.{zeros};
 
 use crate::entry::{ADDRESS_BYTES, CHANGE_BYTES, Entry, MARK_BYTES, Mark};
 use crate::header::{DIGEST_AT, Header, push_header};

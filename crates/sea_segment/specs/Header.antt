@@ -1,16 +1,19 @@
 -- The header of a segment, and how the segment's first block spells it.
-use Rattle.std.specs.Prelude.{◌≡◌, ℕ, ◌<◌, ◌≤◌, ◌^◌, List, ◌++◌, length, replicate, codes, take, slice_range}
+use Rattle.std.specs.Prelude.{◌≡◌, ℕ, ◌<◌, ◌≤◌, ◌^◌, List, ◌++◌, length, replicate, codes, take}
+use Rattle.std.specs.Prelude.{slice_range}
 use Rattle.sea_base.specs.Field.{big_endian}
 use Rattle.sea_base.specs.RootFields.{root_bytes, IsRoot, IsTail}
 use Rattle.sea_segment.specs.declared.header.Header.{Header}
 use Rattle.sea_segment.specs.Seal.{own_digest, sealed, AreZeros, HasSeal}
 
--- The first 144 bytes: the word, the number 1 of the format, the segment, the mount number, the sequence number, zeros,
--- the commit number, tail and roots, and the digest of what stands before it in the chain.
+-- The first 144 bytes: the word, the number 1 of the format, the segment, the mount number, the
+-- sequence number, zeros, the commit number, tail and roots, and the digest of what stands before
+-- it in the chain.
 unfoldable pub header_front : Header → List ℕ
 header_front h =
-    codes "SEASEGMT" ++ big_endian 4 1 ++ big_endian 4 h.segment ++ big_endian 8 h.mount ++ big_endian 8 h.seq ++ replicate 16 0
-    ++ big_endian 8 h.commit.0 ++ root_bytes h.tail h.root ++ h.prev.0
+    codes "SEASEGMT" ++ big_endian 4 1 ++ big_endian 4 h.segment ++ big_endian 8 h.mount
+    ++ big_endian 8 h.seq ++ replicate 16 0 ++ big_endian 8 h.commit.0 ++ root_bytes h.tail h.root
+    ++ h.prev.0
 
 -- the digest that the header's block has of itself
 unfoldable pub header_digest : Header → List ℕ

@@ -1,5 +1,6 @@
 -- Blocks that end in their own digest.
-use Rattle.std.specs.Prelude.{◌≡◌, ℕ, ◌+◌, ◌-◌, List, ◌++◌, length, take, drop, replicate, slice_range}
+use Rattle.std.specs.Prelude.{◌≡◌, ℕ, ◌+◌, ◌-◌, List, ◌++◌, length, take, drop, replicate}
+use Rattle.std.specs.Prelude.{slice_range}
 use Rattle.sea_base.specs.Digest.{sha256}
 
 -- the block that begins so, with these 32 bytes behind, and zeros
@@ -20,4 +21,5 @@ AreZeros bytes = bytes ≡ replicate (length bytes) 0
 -- the block has its own digest at `at`, and zeros behind it
 pub record HasSeal (bytes : List ℕ) (at : ℕ) : Type 0 where
   pub zero : AreZeros (drop (at + 32) bytes)
-  pub digest : slice_range bytes at (at + 32) ≡ sha256 (take at bytes ++ replicate 32 0 ++ drop (at + 32) bytes)
+  pub digest : slice_range bytes at (at + 32)
+      ≡ sha256 (take at bytes ++ replicate 32 0 ++ drop (at + 32) bytes)

@@ -1,11 +1,13 @@
 -- The superblock, and how block 0 spells it.
-use Rattle.std.specs.Prelude.{◌≡◌, ℕ, ◌<◌, ◌≤◌, ◌^◌, List, ◌++◌, replicate, codes, take, slice_range}
+use Rattle.std.specs.Prelude.{◌≡◌, ℕ, ◌<◌, ◌≤◌, ◌^◌, List, ◌++◌, replicate, codes, take}
+use Rattle.std.specs.Prelude.{slice_range}
 use Rattle.sea_base.specs.Field.{big_endian}
 use Rattle.sea_segment.specs.Seal.{sealed, AreZeros, HasSeal}
 
 -- the first 64 bytes: the word, the number of the format, the number of segments, and zeros
 unfoldable pub super_front : ℕ → ℕ → List ℕ
-super_front format segments = codes "SEASUPER" ++ big_endian 4 format ++ big_endian 4 segments ++ replicate 48 0
+super_front format segments =
+    codes "SEASUPER" ++ big_endian 4 format ++ big_endian 4 segments ++ replicate 48 0
 
 -- The block spells a superblock of this format, whichever it is, with this number of segments.
 pub record SpellsAnySuper (bytes : List ℕ) (format segments : ℕ) : Type 0 where

@@ -1,5 +1,6 @@
 -- What the table of segments holds, and which segments it picks.
-use Rattle.std.specs.Prelude.{◌≡◌, ℕ, ◌<◌, ◌≤◌, ◌^◌, List, length, slice_index_or, slice_set, count_by}
+use Rattle.std.specs.Prelude.{◌≡◌, ℕ, ◌<◌, ◌≤◌, ◌^◌, List, length, slice_index_or, slice_set}
+use Rattle.std.specs.Prelude.{count_by}
 use Rattle.sea_segment.specs.declared.state.SegState.{SegState}
 use Rattle.sea_segment.specs.declared.state.SegState.TheVariants.{Empty}
 use Rattle.sea_segment.specs.declared.state.Segment.{Segment}
@@ -39,7 +40,8 @@ pub record IsLeastEmpty (table : List Segment) (s : ℕ) : Type 0 where
   pub empty : IsEmpty table s
   pub least : (k : ℕ) → IsEmpty table k → s ≤ k
 
--- a closed segment with a sequence number below this one, of whose 2,047 blocks fewer than 1,791 are live
+-- a closed segment with a sequence number below this one, of whose 2,047 blocks fewer than 1,791
+-- are live
 pub record MayBeVictim (table : List Segment) (before s : ℕ) : Type 0 where
   pub within : s < length table
   pub closed : IsClosedBefore (state_of table s) before

@@ -1,7 +1,8 @@
 //! The header of a segment, which its first block spells.
 ghost use Rattle.std.specs.Prelude.{◌≡◌, ◌↔◌, length, IfOk, IfSome, IfNone, IsTrue};
 ghost use Rattle.sea_segment.specs.declared.header.Header.{Header as HeaderValue};
-ghost use Rattle.sea_segment.specs.Header.{IsHeader, IsHeaderShape, HasRanges, SpellsHeader, header_digest};
+ghost use Rattle.sea_segment.specs.Header.{IsHeader, IsHeaderShape, HasRanges, SpellsHeader};
+ghost use Rattle.sea_segment.specs.Header.{header_digest};
 
 use crate::seal::{is_sealed, seal};
 use crate::superblock::FORMAT;
@@ -88,7 +89,8 @@ impl Header {
 
     /// The digest that the block of a header has of itself.
     pub fn digest_in(block: &Block) -> Digest
-        ensures { (header : HeaderValue) → SpellsHeader block.now header → result.0 ≡ header_digest header }
+        ensures { (header : HeaderValue) → SpellsHeader block.now header
+            → result.0 ≡ header_digest header }
     {
         digest_at(block.bytes(), FRONT_BYTES)
     }

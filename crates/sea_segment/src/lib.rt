@@ -1,5 +1,5 @@
-//! What the journal knows of its segments: the superblock, the header of a segment, and the table of
-//! their states.
+//! What the journal knows of its segments: the superblock, the header of a segment, and the table
+//! of their states.
 #![tactic(auto)]
 
 mod header;

@@ -1,6 +1,7 @@
 //! The superblock, which says what the image is.
 ghost use Rattle.std.specs.Prelude.{◌≡◌, ℕ, ◌↔◌, length, IfOk, IfSome, IfNone, IsTrue};
-ghost use Rattle.sea_segment.specs.Superblock.{IsSegmentCount, IsSuperShape, SpellsAnySuper, SpellsSuper};
+ghost use Rattle.sea_segment.specs.Superblock.{IsSegmentCount, IsSuperShape, SpellsAnySuper};
+ghost use Rattle.sea_segment.specs.Superblock.{SpellsSuper};
 
 use crate::seal::{is_sealed, seal};
 use sea_base::{Block, NoMemory, is_zero, push_u32, u32_at};
@@ -38,8 +39,10 @@ pub struct Super {
 impl AnySuper {
     /// The superblock that the block spells, of whatever format.
     pub fn read(block: &Block) -> Option<AnySuper>
-        ensures some { IfSome result (λ found. SpellsAnySuper block.now found.format found.segments) }
-        ensures none { IfNone result ((format segments : ℕ) → SpellsAnySuper block.now format segments → ⊥) }
+        ensures some { IfSome result (λ found.
+            SpellsAnySuper block.now found.format found.segments) }
+        ensures none { IfNone result ((format segments : ℕ)
+            → SpellsAnySuper block.now format segments → ⊥) }
     {
         let bytes = block.bytes();
         if !is_shape(bytes) {

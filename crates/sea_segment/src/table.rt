@@ -1,6 +1,9 @@
 //! The table of segments: the state of each, and how many of its blocks are live.
-ghost use Rattle.std.specs.Prelude.{◌≡◌, ℕ, ◌+◌, ◌-◌, ◌<◌, ◌≤◌, ◌^◌, length, replicate, IfOk, IfSome, IfNone};
-ghost use Rattle.sea_segment.specs.Table.{fresh, segment_of, state_of, live_of, with_state, with_live, empty_of, IsEmpty, IsLeastEmpty, MayBeVictim, IsVictim};
+ghost use Rattle.std.specs.Prelude.{◌≡◌, ℕ, ◌+◌, ◌-◌, ◌<◌, ◌≤◌, ◌^◌, length, replicate, IfOk};
+ghost use Rattle.std.specs.Prelude.{IfSome, IfNone};
+ghost use Rattle.sea_segment.specs.Table.{fresh, segment_of, state_of, live_of, with_state};
+ghost use Rattle.sea_segment.specs.Table.{with_live, empty_of, IsEmpty, IsLeastEmpty, MayBeVictim};
+ghost use Rattle.sea_segment.specs.Table.{IsVictim};
 
 use crate::{SegState, Segment};
 use sea_base::NoMemory;
@@ -116,8 +119,8 @@ impl Table {
         None
     }
 
-    /// The segment to clean: of the closed ones with a sequence number below this one, and fewer than
-    /// 1,791 live blocks, one with the fewest, and of these the least.
+    /// The segment to clean: of the closed ones with a sequence number below this one, and fewer
+    /// than 1,791 live blocks, one with the fewest, and of these the least.
     pub fn victim(&self, before: u64) -> Option<u32>
         ensures some { IfSome result (IsVictim self.now before) }
         ensures none { IfNone result ((k : ℕ) → MayBeVictim self.now before k → ⊥) }
