@@ -2,6 +2,7 @@ pub mod Chains
 pub mod Growth
 pub mod Joined
 pub mod Places
+pub mod Ranges
 pub mod Reasons
 pub mod Surveys
 pub mod Telling

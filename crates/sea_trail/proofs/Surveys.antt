@@ -285,7 +285,8 @@ pub fits_more : (block : List ℕ) (segments s : ℕ) (old new : Survey) (n : Op
     → MatchOption old.newest (n ≡ Some f) (λ g. (g.header.seq < f.header.seq → n ≡ Some f) × (f.header.seq ≤ g.header.seq → n ≡ Some g)) → SurveyFits new segments
 fits_more block segments s old new n f lt was is items newest chosen =
     let within : f.header.segment < segments = omega (arith, is.named, lt) in
+    let fit : IsFit segments f = record { within = within; header = is.spells.header; link = is.link } in
     record {
-      found = subst (AreFit segments) (sym items) (AreFit-more segments old.found.items f was.found (within, is.link));
-      newest = subst (λ (o : Option Found). IfSome o (IsFit segments)) (sym newest) (newest_fits segments old.newest n f was.newest (within, is.link) chosen);
+      found = subst (AreFit segments) (sym items) (AreFit-more segments old.found.items f was.found fit);
+      newest = subst (λ (o : Option Found). IfSome o (IsFit segments)) (sym newest) (newest_fits segments old.newest n f was.newest fit chosen);
     }

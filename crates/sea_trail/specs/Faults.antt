@@ -12,6 +12,7 @@ scan_fault reads.NoMemory = scans.NoMemory
 scan_fault reads.DeviceFault = scans.DeviceFault
 
 -- A call blames the device only where the device's count of faults rose, and the count never falls.
-pub record BlamesDevice {T E : Type 0} (device_fault : E) (before now : ℕ) (result : Result T E) : Type 0 where
+pub record BlamesDevice {T E : Type 0} (device_fault : E) (before now : ℕ) (result : Result T E)
+    : Type 0 where
   pub later : before ≤ now
   pub device : IsErrOf result device_fault → FaultsRose before now

@@ -1,16 +1,21 @@
 -- What the parts of an image that are read stand for.
-use Rattle.std.specs.Prelude.{◌≡◌, ℕ, ◌+◌, ◌<◌, ◌≤◌, List, [], ◌∷◌, ◌++◌, length, take, Option, Some, None, IfSome}
+use Rattle.std.specs.Prelude.{◌≡◌, ℕ, ◌+◌, ◌<◌, ◌≤◌, List, [], ◌∷◌, ◌++◌, length, take, Option}
+use Rattle.std.specs.Prelude.{Some, None, IfSome}
 use Rattle.sea_record.specs.Record.{blocks}
 use Rattle.sea_record.specs.declared.record.Record.{Record}
-use Rattle.sea_segment.specs.Header.{SpellsHeader}
+use Rattle.sea_segment.specs.Header.{IsHeader, SpellsHeader}
 use Rattle.sea_segment.specs.declared.header.Header.{Header}
 use Rattle.sea_trail.specs.declared.fault.ImageWhy.{ImageWhy}
-use Rattle.sea_trail.specs.declared.fault.ImageWhy.TheVariants.{NoSuper, OldFormat, Short, NoSegment, MissingSegment, BadRecord}
+use Rattle.sea_trail.specs.declared.fault.ImageWhy.TheVariants.{NoSuper, OldFormat, Short}
+use Rattle.sea_trail.specs.declared.fault.ImageWhy.TheVariants.{NoSegment, MissingSegment}
+use Rattle.sea_trail.specs.declared.fault.ImageWhy.TheVariants.{BadRecord}
 use Rattle.sea_trail.specs.declared.survey.Found.{Found}
 use Rattle.sea_trail.specs.declared.survey.Survey.{Survey}
 use Rattle.sea_trail.specs.declared.chain.Next.{Next}
 use Rattle.sea_trail.specs.declared.trail.Part.{Part}
-use Rattle.sea_trail.specs.Trail.{IsSuper, IsNewest, IsOpen, IsChain, AreClosed, Continues, StandsIn, NoHeader, blocks_needed, chain_end, first_block, header_link, last_link, link_of}
+use Rattle.sea_trail.specs.Trail.{IsSuper, IsNewest, IsOpen, IsChain, AreClosed, Continues}
+use Rattle.sea_trail.specs.Trail.{StandsIn, NoHeader, blocks_needed, chain_end, first_block}
+use Rattle.sea_trail.specs.Trail.{header_link, last_link, link_of}
 
 -- the first block is a superblock
 abbrev pub HasFirst : List ℕ → ℕ → ℕ → Type 0
@@ -19,9 +24,11 @@ HasFirst block format segments = IsSuper block format segments
 -- why the first block of an image of so many blocks names no segments
 abbrev pub IsFirstWhy : List ℕ → ℕ → ImageWhy → Type 0
 IsFirstWhy block have NoSuper = (format segments : ℕ) → IsSuper block format segments → ⊥
-IsFirstWhy block have (OldFormat found) = (segments : ℕ) × IsSuper block found segments × (found ≡ 1 → ⊥)
+IsFirstWhy block have (OldFormat found) =
+    (segments : ℕ) × IsSuper block found segments × (found ≡ 1 → ⊥)
 IsFirstWhy block have (Short had need) =
-    (segments : ℕ) × IsSuper block 1 segments × (had ≡ have) × (need ≡ blocks_needed segments) × (had < need)
+    (segments : ℕ) × IsSuper block 1 segments × (had ≡ have) × (need ≡ blocks_needed segments)
+    × (had < need)
 IsFirstWhy block have NoSegment = ⊥
 IsFirstWhy block have (MissingSegment seq) = ⊥
 IsFirstWhy block have (BadRecord at) = ⊥
@@ -47,15 +54,18 @@ AreFound image from to (f ∷ fs) =
 -- which of them is the open segment's
 abbrev pub IsNewestFound : List ℕ → ℕ → Option Found → Type 0
 IsNewestFound image segments None = NoHeader image 0 segments
-IsNewestFound image segments (Some f) = IsNewest image segments f.header × (f.link ≡ header_link f.header)
+IsNewestFound image segments (Some f) =
+    IsNewest image segments f.header × (f.link ≡ header_link f.header)
 
 pub record IsSurvey (survey : Survey) (segments : ℕ) (image : List ℕ) : Type 0 where
   pub found : AreFound image 0 segments survey.found.items
   pub newest : IsNewestFound image segments survey.newest
 
 -- a header that was found can be gone on from, whatever the device tells
-abbrev pub IsFit : ℕ → Found → Type 0
-IsFit segments f = (f.header.segment < segments) × (f.link ≡ header_link f.header)
+pub record IsFit (segments : ℕ) (f : Found) : Type 0 where
+  pub within : f.header.segment < segments
+  pub header : IsHeader f.header
+  pub link : f.link ≡ header_link f.header
 
 abbrev pub AreFit : ℕ → List Found → Type 0
 AreFit segments [] = Unit {0}
@@ -96,7 +106,8 @@ HasNoPlace p place = (before : List Record) (after : List Record) → p.records 
     → place ≡ chain_end (first_block p.header.segment) before → ⊥
 
 -- all that a scan reads: the open segment, the closed ones, and the headers
-pub record IsTold (image : List ℕ) (segments : ℕ) (found : List Found) (closed : List Part) (newest : Part) : Type 0 where
+pub record IsTold (image : List ℕ) (segments : ℕ) (found : List Found) (closed : List Part)
+    (newest : Part) : Type 0 where
   pub headers : AreFound image 0 segments found
   pub is_open : IsOpen image segments newest
   pub are_closed : AreClosed image segments newest closed

@@ -3,11 +3,14 @@ use Rattle.std.specs.Prelude.{◌≡◌, ℕ, ◌<◌, ◌≤◌, List, [], ◌�
 use Rattle.sea_record.specs.declared.record.Record.{Record}
 use Rattle.sea_segment.specs.declared.header.Header.{Header}
 use Rattle.sea_trail.specs.declared.fault.ImageWhy.{ImageWhy}
-use Rattle.sea_trail.specs.declared.fault.ImageWhy.TheVariants.{NoSuper, OldFormat, Short, NoSegment, MissingSegment, BadRecord}
+use Rattle.sea_trail.specs.declared.fault.ImageWhy.TheVariants.{NoSuper, OldFormat, Short}
+use Rattle.sea_trail.specs.declared.fault.ImageWhy.TheVariants.{NoSegment, MissingSegment}
+use Rattle.sea_trail.specs.declared.fault.ImageWhy.TheVariants.{BadRecord}
 use Rattle.sea_trail.specs.declared.fault.ScanFault.{ScanFault}
 use Rattle.sea_trail.specs.declared.fault.ScanFault.TheVariants as scans
 use Rattle.sea_trail.specs.declared.trail.Part.{Part}
-use Rattle.sea_trail.specs.Trail.{HasSuper, HasSegments, HasHeader, IsNumbered, IsOpen, AreClosed, AreLinked, AreFrom, Follows, blocks_in, blocks_needed}
+use Rattle.sea_trail.specs.Trail.{HasSuper, HasSegments, HasHeader, IsNumbered, IsOpen, AreClosed}
+use Rattle.sea_trail.specs.Trail.{AreLinked, AreFrom, Follows, blocks_in, blocks_needed}
 
 -- its superblock is of another format
 pub record IsOld (image : List ℕ) (found : ℕ) : Type 0 where
@@ -37,7 +40,8 @@ pub record IsMissing (image : List ℕ) (seq : ℕ) : Type 0 where
   pub from_tail : newest.last.tail.seq ≤ seq
   pub to_newest : seq ≤ newest.header.seq
   pub none : (h : Header) → HasHeader image segments h → h.seq ≡ seq → ⊥
-  pub first : (q : ℕ) → newest.last.tail.seq ≤ q → q < seq → (h : Header) × IsNumbered image segments q h
+  pub first : (q : ℕ) → newest.last.tail.seq ≤ q → q < seq
+      → (h : Header) × IsNumbered image segments q h
 
 -- The tail names a segment behind the open one.
 pub record TailAhead (image : List ℕ) (block : ℕ) : Type 0 where
@@ -67,7 +71,8 @@ pub record IsTorn (image : List ℕ) (block : ℕ) : Type 0 where
   pub are_closed : AreClosed image segments newest closed
   pub first_break : IsBreak (closed ++ newest ∷ []) block
 
--- All go on from one another, and no record is at the tail's place, nor the end of its segment's chain.
+-- All go on from one another, and no record is at the tail's place, nor the end of its segment's
+-- chain.
 pub record TailAstray (image : List ℕ) (block : ℕ) : Type 0 where
   pub segments : ℕ
   pub newest : Part
@@ -75,7 +80,8 @@ pub record TailAstray (image : List ℕ) (block : ℕ) : Type 0 where
   pub closed : List Part
   pub are_closed : AreClosed image segments newest closed
   pub linked : AreLinked (closed ++ newest ∷ [])
-  pub none : (records : List Record) → AreFrom newest.last.tail.place.0 (closed ++ newest ∷ []) records → ⊥
+  pub none : (records : List Record)
+      → AreFrom newest.last.tail.place.0 (closed ++ newest ∷ []) records → ⊥
   pub at : block ≡ newest.last.tail.place.0
 
 pub data IsBad (image : List ℕ) (block : ℕ) : Type 0 where

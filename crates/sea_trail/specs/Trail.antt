@@ -1,6 +1,7 @@
--- The trail of an image: which segments and records count, where they end, and what the last of them
--- says. An image is the list of its bytes.
-use Rattle.std.specs.Prelude.{◌≡◌, ℕ, ◌+◌, ◌*◌, ◌/◌, ◌<◌, ◌≤◌, List, [], ◌∷◌, ◌++◌, length, drop, slice_range}
+-- The trail of an image: which segments and records count, where they end, and what the last of
+-- them says. An image is the list of its bytes.
+use Rattle.std.specs.Prelude.{◌≡◌, ℕ, ◌+◌, ◌*◌, ◌/◌, ◌<◌, ◌≤◌, List, [], ◌∷◌, ◌++◌, length, drop}
+use Rattle.std.specs.Prelude.{slice_range}
 use Rattle.std.specs.List.{flat_map}
 use Rattle.sea_record.specs.Record.{BeginsWith, blocks, own_digest}
 use Rattle.sea_record.specs.declared.record.Kind.{Kind}
@@ -87,10 +88,22 @@ pub record IsNewest (image : List ℕ) (segments : ℕ) (h : Header) : Type 0 wh
 -- ---- chains of records
 
 abbrev pub link_of : Record → Link
-link_of r = record { mount = r.mount; commit = r.commit; digest = record { 0 = own_digest r }; tail = r.tail; root = r.root }
+link_of r = record {
+  mount = r.mount;
+  commit = r.commit;
+  digest = record { 0 = own_digest r };
+  tail = r.tail;
+  root = r.root;
+}
 
 abbrev pub header_link : Header → Link
-header_link h = record { mount = h.mount; commit = h.commit; digest = record { 0 = header_digest h }; tail = h.tail; root = h.root }
+header_link h = record {
+  mount = h.mount;
+  commit = h.commit;
+  digest = record { 0 = header_digest h };
+  tail = h.tail;
+  root = h.root;
+}
 
 -- a mount record counts one opening more
 abbrev pub mount_after : Kind → ℕ → ℕ
@@ -131,7 +144,8 @@ last_link link (r ∷ rs) = last_link (link_of r) rs
 
 -- the chain of a segment begins behind its header, and these are its records
 pub record HasChain (image : List ℕ) (p : Part) : Type 0 where
-  pub chain : IsChain (body_of image p.header.segment) (first_block p.header.segment) p.header.seq (header_link p.header) p.records
+  pub chain : IsChain (body_of image p.header.segment) (first_block p.header.segment) p.header.seq
+      (header_link p.header) p.records
   pub ends : p.end.0 ≡ chain_end (first_block p.header.segment) p.records
   pub last : p.last ≡ last_link (header_link p.header) p.records
 
@@ -174,7 +188,8 @@ AreFrom place (p ∷ ps) records =
 
 -- what the last record or header hands on
 abbrev pub trail_link : Trail → Link
-trail_link t = record { mount = t.mount; commit = t.commit; digest = t.last; tail = t.tail; root = t.root }
+trail_link t =
+    record { mount = t.mount; commit = t.commit; digest = t.last; tail = t.tail; root = t.root }
 
 -- the open segment with its chain
 pub record IsOpen (image : List ℕ) (segments : ℕ) (p : Part) : Type 0 where
@@ -183,7 +198,8 @@ pub record IsOpen (image : List ℕ) (segments : ℕ) (p : Part) : Type 0 where
   pub chain : HasChain image p
 
 -- The closed segments from the tail's on, up to the open one. The tail is what the last link names.
-pub record AreClosed (image : List ℕ) (segments : ℕ) (newest : Part) (closed : List Part) : Type 0 where
+pub record AreClosed (image : List ℕ) (segments : ℕ) (newest : Part) (closed : List Part)
+    : Type 0 where
   pub parts : AreParts image segments newest.last.tail.seq closed
   pub joined : newest.last.tail.seq + length closed ≡ newest.header.seq
 

@@ -1,10 +1,14 @@
 //! The chain of a segment, read from its bytes.
-ghost use Rattle.std.specs.Prelude.{◌≡◌, ◌+◌, ◌*◌, ◌≤◌, ◌↔◌, length, IfOk, IfSome, IsTrue, MatchOption};
+ghost use Rattle.std.specs.Prelude.{◌≡◌, ◌+◌, ◌*◌, ◌≤◌, ◌↔◌, length, IfOk, IfSome, IsTrue};
+ghost use Rattle.std.specs.Prelude.{MatchOption};
 ghost use Rattle.sea_device.specs.Calls.{OnlyRead};
 ghost use Rattle.sea_record.specs.Record.{BeginsWith, blocks};
+ghost use Rattle.sea_segment.specs.Header.{IsHeader};
 ghost use Rattle.sea_trail.specs.Faults.{BlamesDevice};
 ghost use Rattle.sea_trail.specs.Parts.{IsPartOf, GoesOn};
-ghost use Rattle.sea_trail.specs.Trail.{Continues, NoneContinues, HasChain, header_link, link_of, mount_after, segment_end};
+ghost use Rattle.sea_trail.specs.Ranges.{PartInRange};
+ghost use Rattle.sea_trail.specs.Trail.{Continues, NoneContinues, HasChain, header_link, link_of};
+ghost use Rattle.sea_trail.specs.Trail.{mount_after, segment_end};
 ghost use Rattle.sea_trail.specs.declared.fault.ReadFault.TheVariants.{DeviceFault};
 
 use crate::reading::read_blocks;
@@ -19,10 +23,11 @@ use std::alloc::Global;
 pub fn read_part<D: Device>(alloc: Global, device: &mut D, found: &Found) -> Result<Part, ReadFault>
     requires few { found.now.header.segment ≤ 8191 }
     requires within { segment_end found.now.header.segment ≤ D.size device.old }
-    requires link { found.now.link ≡ header_link found.now.header }
+    requires fit { IsHeader found.now.header × (found.now.link ≡ header_link found.now.header) }
     ensures part { IfOk result (λ part. IfSome (D.contents device.old)
         (λ image. HasChain image part)) }
     ensures header { IfOk result (λ part. part.header ≡ found.now.header) }
+    ensures range { IfOk result PartInRange }
     ensures read { OnlyRead D.Device device.old device.new }
     ensures cause { BlamesDevice DeviceFault (D.faults device.old) (D.faults device.new) result }
 {

@@ -1,10 +1,12 @@
 //! Segments one after the other.
-ghost use Rattle.std.specs.Prelude.{◌≡◌, ◌+◌, ◌<◌, ◌≤◌, ◌↔◌, List, ◌++◌, length, IfOk, IfErr, IfSome, IsTrue, MatchOption, drop};
+ghost use Rattle.std.specs.Prelude.{◌≡◌, ◌+◌, ◌<◌, ◌≤◌, ◌↔◌, List, ◌++◌, length, IfOk, IfErr};
+ghost use Rattle.std.specs.Prelude.{IfSome, IsTrue, MatchOption, drop};
 ghost use Rattle.sea_device.specs.Calls.{OnlyRead};
 ghost use Rattle.sea_trail.specs.Faults.{BlamesDevice};
 ghost use Rattle.sea_trail.specs.Parts.{AreFit, AreFound, IsPlace, IsPlaced, HasNoPlace};
 ghost use Rattle.sea_trail.specs.Refusals.{Refuses, IsBreak};
-ghost use Rattle.sea_trail.specs.Trail.{AreLinked, AreClosed, Follows, IsOpen, blocks_needed, records_in};
+ghost use Rattle.sea_trail.specs.Trail.{AreLinked, AreClosed, Follows, IsOpen, blocks_needed};
+ghost use Rattle.sea_trail.specs.Trail.{records_in};
 ghost use Rattle.sea_trail.specs.declared.fault.ScanFault.TheVariants.{DeviceFault};
 
 use crate::chain::read_part;

@@ -3,6 +3,7 @@ ghost use Rattle.std.specs.Prelude.{◌≡◌, List, ℕ, [], ◌∷◌, ◌++�
 ghost use Rattle.sea_device.specs.Calls.{OnlyRead};
 ghost use Rattle.sea_trail.specs.Faults.{BlamesDevice};
 ghost use Rattle.sea_trail.specs.Parts.{IsTold};
+ghost use Rattle.sea_trail.specs.Ranges.{HasFieldsOf, IsInRange};
 ghost use Rattle.sea_trail.specs.Refusals.{Refuses};
 ghost use Rattle.sea_trail.specs.Trail.{IsTrail};
 ghost use Rattle.sea_trail.specs.declared.fault.ScanFault.TheVariants.{DeviceFault};
@@ -24,6 +25,7 @@ pub fn scan<D: Device>(alloc: Global, device: &mut D) -> Result<Trail, ScanFault
         (λ image. IsTrail image trail)) }
     ensures refused { IfErr result (λ fault. IfSome (D.contents device.old)
         (λ image. Refuses image fault)) }
+    ensures range { IfOk result (λ trail. IsInRange trail (D.size device.old)) }
     ensures read { OnlyRead D.Device device.old device.new }
     ensures cause { BlamesDevice DeviceFault (D.faults device.old) (D.faults device.new) result }
 {
@@ -54,6 +56,8 @@ fn trail_in(
         → IsTold image segments found.now closed.items newest → IsTrail image trail) }
     ensures refused { IfErr result (λ fault. (image : List ℕ)
         → IsTold image segments found.now closed.items newest → Refuses image fault) }
+    ensures segments { IfOk result (λ trail. trail.segments ≡ segments) }
+    ensures fields { IfOk result (HasFieldsOf newest) }
     ensures no_device { result ≡ Err DeviceFault → ⊥ }
 {
     let headers = headers_of(alloc, found)?;

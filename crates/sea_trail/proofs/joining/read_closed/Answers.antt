@@ -25,13 +25,13 @@ fit : (g : Over) (c : After-header-in-loop-seq-1 g) → IsFit c.args.segments c.
 fit g c = AreFit-find c.args.segments c.loop-seq.seq c.args.found.now c.in-Some.header c.requires.fit (sym c.numbered.ensures ∙ c.in-Some.is)
 
 pub read_part-requires-clause-few : goal.read_part-requires-clause-few
-read_part-requires-clause-few g c = omega (arith, (fit g c).0, c.requires.few.0)
+read_part-requires-clause-few g c = omega (arith, (fit g c).within, c.requires.few.0)
 
 pub read_part-requires-clause-within : goal.read_part-requires-clause-within
-read_part-requires-clause-within g c = omega (arith, (fit g c).0, c.requires.few.1, c.loop-seq.invariant.only_read.size)
+read_part-requires-clause-within g c = omega (arith, (fit g c).within, c.requires.few.1, c.loop-seq.invariant.only_read.size)
 
-pub read_part-requires-clause-link : goal.read_part-requires-clause-link
-read_part-requires-clause-link g c = (fit g c).1
+pub read_part-requires-clause-fit : goal.read_part-requires-clause-fit
+read_part-requires-clause-fit g c = ((fit g c).header, (fit g c).link)
 
 pub loop-seq-preserved : goal.loop-seq-preserved
 loop-seq-preserved g c =
