@@ -1,19 +1,19 @@
 -- What is appended while a record is spelled.
-use Rattle.std.proofs.Common.{◌≡◌, ℕ, ◌+◌, ◌-◌, ◌*◌, ◌≤◌, List, [], ◌++◌, length, take, drop, replicate, sym, ap, ◌∙◌, arith, append_assoc, length-append}
+use Rattle.std.proofs.Common.{◌≡◌, ℕ, ◌-◌, ◌*◌, ◌≤◌, List, [], ◌++◌, length, take, drop, replicate, refl, sym, ap, ◌∙◌, arith, append_assoc, length-append}
 use Rattle.std.proofs.lemmas.List.{take_all, take_at, length-replicate}
 use Rattle.sea_base.specs.Digest.{sha256}
 use Rattle.sea_base.specs.Field.{big_endian}
 use Rattle.sea_record.specs.Entries.{mark_bytes, address_bytes, change_bytes, counted}
 use Rattle.sea_record.specs.Header.{header_bytes}
 use Rattle.sea_record.specs.Parts.{Fits}
-use Rattle.sea_record.specs.Record.{listed, metadata, payload, payload_blocks, metadata_blocks, blocks, header_of, zeros, sealed, own_digest, record_bytes}
+use Rattle.sea_record.specs.Record.{listed, metadata, payload, metadata_blocks, header_of, zeros, sealed, own_digest, record_bytes}
 use Rattle.sea_record.specs.declared.record.Body.{Body}
 use Rattle.sea_record.specs.declared.record.Placed.{Placed}
 use Rattle.sea_record.specs.declared.record.Record.{Record}
 use Rattle.sea_record.proofs.MetadataLengths.{metadata_lists}
 use Rattle.sea_record.proofs.Headers.{length-header_bytes}
 use Rattle.sea_record.proofs.ReadRecords.{resealed}
-use Rattle.sea_record.proofs.Records.{length-zeros, length-payload, record_bytes_is}
+use Rattle.sea_record.proofs.Records.{length-zeros, record_bytes_is}
 
 pub padded : (old new : List ℕ) (n end : ℕ) → n ≡ length old → length old ≤ end → new ≡ take end old ++ replicate (end - n) 0 → new ≡ old ++ zeros (end - length old)
 unfolding zeros
@@ -24,36 +24,44 @@ pub mark_pushed : (at version sum : ℕ) (b0 b1 b2 b3 : List ℕ) → b1 ≡ b0 
 mark_pushed at version sum b0 b1 b2 b3 e1 e2 e3 =
     e3 ∙ ap (λ (b : List ℕ). b ++ big_endian 8 sum) (e2 ∙ ap (λ (b : List ℕ). b ++ big_endian 8 version) e1) ∙ simp append_assoc
 
--- the header and the payload in place, and the metadata behind
-pub record Built (r : Record) (b1 b2 b3 b4 b5 : List ℕ) (stop : ℕ) : Type 0 where
-  pub header : b1 ≡ [] ++ header_bytes (header_of r (replicate 32 0))
-  pub front : b2 ≡ b1 ++ zeros (4096 - length b1)
-  pub payload : b3 ≡ b2 ++ payload r.body
-  pub metadata : b4 ≡ b3 ++ metadata r.body
-  pub end : stop ≡ 4096 * blocks r.body
-  pub back : b5 ≡ b4 ++ zeros (stop - length b4)
+-- the header block, and the metadata in whole blocks
+abbrev pub IsFront : Record → List ℕ → Type 0
+IsFront r front = front ≡ header_bytes (header_of r (replicate 32 0)) ++ zeros 3920
+
+abbrev pub IsBack : Body → List ℕ → Type 0
+IsBack body back = back ≡ metadata body ++ zeros (4096 * metadata_blocks body - length (metadata body))
 
 pub length-header : (r : Record) (b1 : List ℕ) → Fits r → b1 ≡ [] ++ header_bytes (header_of r (replicate 32 0)) → length b1 ≡ 176
 length-header r b1 fits e = ap length e ∙ length-header_bytes (header_of r (replicate 32 0)) fits.header.prev (length-replicate {A = ℕ} 32 0)
 
-pub length-front : (r : Record) (b1 b2 : List ℕ) → Fits r → b1 ≡ [] ++ header_bytes (header_of r (replicate 32 0)) → b2 ≡ b1 ++ zeros (4096 - length b1) → length b2 ≡ 4096
-length-front r b1 b2 fits e f =
-    omega (arith, ap length f, length-append b1 (zeros (4096 - length b1)), length-zeros (4096 - length b1), length-header r b1 fits e)
+pub front_made : (r : Record) (b1 b2 : List ℕ) → Fits r → b1 ≡ [] ++ header_bytes (header_of r (replicate 32 0)) → b2 ≡ b1 ++ zeros (4096 - length b1) → IsFront r b2
+front_made r b1 b2 fits e f =
+    let len = length-header r b1 fits e in
+    f ∙ ap (λ (k : ℕ). b1 ++ zeros k) (omega arith) ∙ ap (λ (x : List ℕ). x ++ zeros 3920) e
 
-pub length-filled : (r : Record) (b1 b2 b3 b4 : List ℕ) → Fits r → b1 ≡ [] ++ header_bytes (header_of r (replicate 32 0)) → b2 ≡ b1 ++ zeros (4096 - length b1) → b3 ≡ b2 ++ payload r.body → b4 ≡ b3 ++ metadata r.body → length b4 ≡ 4096 * (1 + payload_blocks r.body) + length (metadata r.body)
-length-filled r b1 b2 b3 b4 fits e f g h =
-    omega (arith, ap length h, length-append b3 (metadata r.body), ap length g, length-append b2 (payload r.body), length-front r b1 b2 fits e f, length-payload r.body fits.placed fits.nodes)
-
-pub built : (r : Record) (b1 b2 b3 b4 b5 : List ℕ) (end : ℕ) → Fits r → Built r b1 b2 b3 b4 b5 end → b5 ≡ sealed r (replicate 32 0)
-unfolding sealed
-built r b1 b2 b3 b4 b5 end fits b =
+pub length-front : (r : Record) (front : List ℕ) → Fits r → IsFront r front → length front ≡ 4096
+length-front r front fits e =
     let hb = header_bytes (header_of r (replicate 32 0)) in
-    let l1 = length-header r b1 fits b.header in
-    let l4 = length-filled r b1 b2 b3 b4 fits b.header b.front b.payload b.metadata in
-    let n = length (metadata r.body) in
-    let f2 : b2 ≡ hb ++ zeros 3920 = b.front ∙ ap (λ (k : ℕ). b1 ++ zeros k) (omega arith) ∙ ap (λ (x : List ℕ). x ++ zeros 3920) b.header in
-    let f4 = b.metadata ∙ ap (λ (x : List ℕ). x ++ metadata r.body) (b.payload ∙ ap (λ (x : List ℕ). x ++ payload r.body) f2) in
-    b.back ∙ ap (λ (k : ℕ). b4 ++ zeros k) (omega (arith, b.end, l4)) ∙ ap (λ (x : List ℕ). x ++ zeros (4096 * metadata_blocks r.body - n)) f4
+    omega (arith, ap length e, length-append hb (zeros 3920), length-zeros 3920, length-header r hb fits refl)
+
+pub length-back : (body : Body) (back : List ℕ) → IsBack body back → length back ≡ 4096 * metadata_blocks body
+length-back body back e =
+    let n = length (metadata body) in
+    omega (arith, ap length e, length-append (metadata body) (zeros (4096 * metadata_blocks body - n)), length-zeros (4096 * metadata_blocks body - n))
+
+pub back_made : (body : Body) (b1 b2 : List ℕ) (end : ℕ) → b1 ≡ [] ++ metadata body → end ≡ 4096 * metadata_blocks body → b2 ≡ b1 ++ zeros (end - length b1) → IsBack body b2
+back_made body b1 b2 end e is f =
+    f ∙ ap (λ (k : ℕ). b1 ++ zeros k) (omega (arith, is, ap length e)) ∙ ap (λ (x : List ℕ). x ++ zeros (4096 * metadata_blocks body - length (metadata body))) e
+
+-- laid one behind the other they are the record, with zeros in the place of its digest
+pub parts_sealed : (r : Record) (front back : List ℕ) → IsFront r front → IsBack r.body back → front ++ payload r.body ++ back ≡ sealed r (replicate 32 0)
+unfolding sealed
+parts_sealed r front back f b =
+    let p = payload r.body in
+    let hz = header_bytes (header_of r (replicate 32 0)) ++ zeros 3920 in
+    let m = metadata r.body in
+    let z = zeros (4096 * metadata_blocks r.body - length m) in
+    ap (λ (x : List ℕ). x ++ p ++ back) f ∙ ap (λ (x : List ℕ). hz ++ p ++ x) b ∙ sym (append_assoc (hz ++ p) m z)
 
 pub finished : (r : Record) (b5 b6 digest : List ℕ) → Fits r → b5 ≡ sealed r (replicate 32 0) → digest ≡ sha256 b5 → b6 ≡ take 144 b5 ++ digest ++ drop 176 b5 → b6 ≡ record_bytes r
 unfolding own_digest

@@ -3,6 +3,7 @@ pub mod Encoding
 pub mod EntryBytes
 pub mod EntryLists
 pub mod Headers
+pub mod Laying
 pub mod MetadataLengths
 pub mod Metadatas
 pub mod Payloads

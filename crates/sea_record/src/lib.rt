@@ -17,4 +17,4 @@ pub use header::{DIGEST_AT, digest_in};
 pub use law::spelling_laws;
 pub use reading::decode;
 pub use record::{Body, Change, Kind, Placed, Record};
-pub use writing::{encode, size};
+pub use writing::{encode, encode_into, size};

@@ -1,8 +1,8 @@
 //! Records written as bytes.
 ghost use Rattle.std.specs.Prelude.{◌≡◌, ◌+◌, ◌-◌, ◌*◌, ◌^◌, ◌<◌, ◌≤◌, ◌++◌, length, replicate};
-ghost use Rattle.std.specs.Prelude.{All, OnOk, IfOk};
-ghost use Rattle.std.specs.List.{flat_map};
+ghost use Rattle.std.specs.Prelude.{All, OnOk, OnErr, IfOk};
 ghost use Rattle.sea_record.specs.Entries.{counted, mark_bytes};
+ghost use Rattle.sea_record.specs.Header.{header_bytes};
 ghost use Rattle.sea_record.specs.Parts.{mark_of};
 ghost use Rattle.sea_record.specs.Record.{IsChange, IsRecord, header_of, blocks, metadata};
 ghost use Rattle.sea_record.specs.Record.{metadata_blocks, payload, payload_blocks, record_bytes};
@@ -28,16 +28,71 @@ pub fn encode(alloc: Global, entry: &Record) -> Result<Data, NoMemory>
     requires { IsRecord entry.now }
     ensures { IfOk result (λ bytes. bytes ≡ record_bytes entry.now) }
 {
-    let end = BLOCK_BYTES * size(&entry.body) as usize;
-    let mut bytes = Vec::with_capacity(alloc, end)?;
+    let mut bytes = vec![in alloc; 0; BLOCK_BYTES * size(&entry.body) as usize]?;
+    encode_into(alloc, entry, &mut bytes)?;
+    Data::from_vec(bytes)
+}
+
+/// Writes the one spelling of a record over as many bytes. Without memory these stay as they were.
+pub fn encode_into(alloc: Global, entry: &Record, into: &mut [u8]) -> Result<(), NoMemory>
+    requires is_record { IsRecord entry.now }
+    requires whole { length into.old ≡ 4096 * blocks entry.now.body }
+    ensures ok { OnOk result (into.new ≡ record_bytes entry.now) }
+    ensures err { OnErr result (into.new ≡ into.old) }
+{
+    let front = front_block(alloc, entry)?;
+    let back = back_blocks(alloc, &entry.body)?;
+    put_parts(into, &front, &entry.body, &back);
+    let digest = digest_of(into);
+    put_bytes(into, DIGEST_AT, &digest.0);
+    Ok(())
+}
+
+// The header block of a record, with zeros in the place of its digest.
+fn front_block(alloc: Global, entry: &Record) -> Result<Vec<u8>, NoMemory>
+    requires { IsRecord entry.now }
+    ensures { IfOk result (λ bytes. bytes.items
+        ≡ header_bytes (header_of entry.now (replicate 32 0)) ++ zeros 3920) }
+{
+    let mut bytes = Vec::with_capacity(alloc, BLOCK_BYTES)?;
     push_header(&mut bytes, &unsealed_header(entry))?;
     pad(&mut bytes, BLOCK_BYTES)?;
-    push_payload(&mut bytes, &entry.body)?;
-    push_metadata(&mut bytes, &entry.body)?;
+    Ok(bytes)
+}
+
+// The metadata in whole blocks.
+fn back_blocks(alloc: Global, body: &Body) -> Result<Vec<u8>, NoMemory>
+    requires lists { (length body.now.placed < 2 ^ 32) × (length body.now.dropped < 2 ^ 32)
+        × (length body.now.changes < 2 ^ 32) }
+    requires changes { All IsChange body.now.changes }
+    requires few { metadata_blocks body.now ≤ 1024 }
+    ensures { IfOk result (λ bytes. bytes.items ≡ metadata body.now
+        ++ zeros (4096 * metadata_blocks body.now - length (metadata body.now))) }
+{
+    let end = BLOCK_BYTES * metadata_len(body).div_ceil(BLOCK_BYTES);
+    let mut bytes = Vec::with_capacity(alloc, end)?;
+    push_metadata(&mut bytes, body)?;
     pad(&mut bytes, end)?;
-    let digest = digest_of(&bytes);
-    put_bytes(&mut bytes, DIGEST_AT, &digest.0);
-    Data::from_vec(bytes)
+    Ok(bytes)
+}
+
+// Writes the parts of a record one behind the other over as many bytes.
+fn put_parts(into: &mut [u8], front: &[u8], body: &Body, back: &[u8])
+    requires front { length front.now ≡ 4096 }
+    requires whole { length into.old ≡ 4096 * (1 + payload_blocks body.now) + length back.now }
+    ensures { into.new ≡ front.now ++ payload body.now ++ back.now }
+{
+    put_bytes(into, 0, front);
+    let mut at = BLOCK_BYTES;
+    for placed in body.placed.items() {
+        put_bytes(into, at, placed.block.bytes());
+        at += BLOCK_BYTES;
+    }
+    for node in body.nodes.items() {
+        put_bytes(into, at, node.bytes());
+        at += BLOCK_BYTES;
+    }
+    put_bytes(into, at, back);
 }
 
 // How many blocks of payload there are.
@@ -84,19 +139,6 @@ fn unsealed_header(entry: &Record) -> Header
         prev: entry.prev,
         digest: Digest([0; 32]),
     }
-}
-
-// Appends the placed blocks and the nodes.
-fn push_payload(bytes: &mut Vec<u8>, body: &Body) -> Result<(), NoMemory>
-    ensures { OnOk result (bytes.new.items ≡ bytes.old.items ++ payload body.now) }
-{
-    for placed in body.placed.items() {
-        bytes.extend_from_slice(placed.block.bytes())?;
-    }
-    for node in body.nodes.items() {
-        bytes.extend_from_slice(node.bytes())?;
-    }
-    Ok(())
 }
 
 // Appends the metadata.
