@@ -10,7 +10,7 @@ use thiserror::Error;
 /// Why a trial was not done.
 #[derive(Clone, Copy, Debug, PartialEq, Eq, Error)]
 pub enum TrialFault {
-    #[error("usage: sea_trail_trial scan|hash SEGMENTS TIMES")]
+    #[error("usage: sea_trail_trial scan|hash|spell SEGMENTS TIMES")]
     Usage,
     #[error("no memory")]
     NoMemory,

@@ -1,5 +1,5 @@
-//! A trial of trails: it builds an image whose segments are full of records, and scans it or hashes
-//! the same blocks so many times.
+//! A trial of trails: it builds an image whose segments are full of records, and scans it, hashes the
+//! same blocks or spells their records so many times.
 #![tactic(auto)]
 
 mod fault;
@@ -40,6 +40,7 @@ fn run(rt: &HostRuntime) -> Result<(), TrialFault> {
     let work = match work.as_str() {
         "scan" => Work::Scan,
         "hash" => Work::Hash,
+        "spell" => Work::Spell,
         _ => return Err(TrialFault::Usage),
     };
     let report = run_trial(

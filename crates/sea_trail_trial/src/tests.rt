@@ -2,4 +2,5 @@ mod agreement;
 mod both;
 mod chains;
 mod dice;
+mod faults;
 mod refusals;

@@ -4,6 +4,7 @@ use crate::fault::TrialFault;
 use crate::format::Holds;
 use crate::image::{Image, Step};
 use sea_base::{BLOCK_BYTES, Digest, digest_of};
+use sea_record::{decode, encode};
 use sea_trail::scan;
 use std::alloc::Global;
 use std::fmt;
@@ -15,6 +16,8 @@ pub enum Work {
     Scan,
     /// The blocks of its segments are hashed, each segment's at once.
     Hash,
+    /// The records of its segments are read one by one and spelled again.
+    Spell,
 }
 
 /// What a trial counted.
@@ -54,6 +57,7 @@ pub fn run_trial(
         let blocks = match work {
             Work::Scan => scanned(alloc, &mut image, segments)?,
             Work::Hash => hashed(&image, segments),
+            Work::Spell => spelled(alloc, &image, segments)?,
         };
         report.blocks = report.blocks.saturating_add(blocks);
     }
@@ -87,13 +91,38 @@ fn scanned(alloc: Global, image: &mut Image, segments: u32) -> Result<usize, Tri
 // How many blocks were hashed behind the headers.
 fn hashed(image: &Image, segments: u32) -> usize {
     let mut blocks = 0usize;
-    for segment in 0..segments as usize {
-        let from = (2 + 2048 * segment) * BLOCK_BYTES;
-        if let Some(bytes) = image.device.bytes().get(from..from + 2047 * BLOCK_BYTES)
+    for segment in 0..segments {
+        if let Some(bytes) = body_of(image, segment)
             && digest_of(bytes) != Digest([0; 32])
         {
             blocks = blocks.saturating_add(2047);
         }
     }
     blocks
+}
+
+// How many blocks the records take that are spelled.
+fn spelled(alloc: Global, image: &Image, segments: u32) -> Result<usize, TrialFault> {
+    let mut blocks = 0usize;
+    for segment in 0..segments {
+        let mut rest = body_of(image, segment).unwrap_or(&[]);
+        for _ in 0..2047 {
+            let Some(record) = decode(alloc, rest)? else {
+                break;
+            };
+            let bytes = encode(alloc, &record)?;
+            blocks = blocks.saturating_add(bytes.len() / BLOCK_BYTES);
+            let Some(behind) = rest.get(bytes.len()..) else {
+                break;
+            };
+            rest = behind;
+        }
+    }
+    Ok(blocks)
+}
+
+// The blocks of a segment behind its header.
+fn body_of(image: &Image, segment: u32) -> Option<&[u8]> {
+    let from = (2 + 2048 * segment as usize) * BLOCK_BYTES;
+    image.device.bytes().get(from..from + 2047 * BLOCK_BYTES)
 }

@@ -40,7 +40,7 @@ fn read_bytes(alloc: Global, bytes: &[u8]) -> Option<Result<Trail, ScanFault>> {
 }
 
 // Whether two trails have all in common but what the records hold, of which the digests tell.
-fn is_same(left: &Trail, right: &Trail) -> bool {
+pub fn is_same(left: &Trail, right: &Trail) -> bool {
     left.segments == right.segments
         && left.active == right.active
         && left.seq == right.seq
