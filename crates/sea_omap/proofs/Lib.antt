@@ -1,0 +1,5 @@
+pub mod Chains
+pub mod Contents
+pub mod Given
+pub mod Paths
+pub mod Stores
