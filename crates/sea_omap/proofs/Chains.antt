@@ -43,8 +43,8 @@ pub record GiveAll (keys : ℕ) (old new : Seen) : Type 0 where
 pub give_none : (old : Seen) → GiveAll 0 old old
 give_none old = record { rises = omega arith; few = omega arith }
 
-pub give_then : (keys : ℕ) (a b c : Seen) → Gives a b → GiveAll keys b c → GiveAll (keys + 1) a c
-give_then keys a b c one all = record { rises = omega (arith, one.rises, all.rises); few = omega (arith, one.few, all.few) }
+pub give_more : (keys : ℕ) (a b c : Seen) → GiveAll keys a b → Gives b c → GiveAll (keys + 1) a c
+give_more keys a b c all one = record { rises = omega (arith, one.rises, all.rises); few = omega (arith, one.few, all.few) }
 
 pub keys_give : (root : ℕ) (changes : List Change) (found : List (Option (List ℕ))) (old new : Seen) → ChangesKeys root changes found old new → GiveAll (length changes) old new
 keys_give root [] found old new done = subst (λ (s : Seen). GiveAll 0 old s) (sym done.1) (give_none old)
