@@ -24,10 +24,10 @@ form_agrees root key value old new form store agrees =
     agrees_before form.reads (Does-agrees [] form.plans store (Does-agrees (plan_changes form.plan) form.writes store agrees))
 
 pub key_agrees : (root : ℕ) (key : List ℕ) (value found : Option (List ℕ)) (old new : Seen) → HasKeyForm root key value found old new → (store : Store) → Agrees store new → Agrees store old
-key_agrees root key (Some value) found old new (inl form) = form_agrees root key (Some value) old new form
+key_agrees root key (Some value) found old new (inl form) store agrees = form_agrees root key (Some value) old new form store agrees
 key_agrees root key (Some value) found old new (inr first) store agrees = agrees_before first.reads (Does-agrees _ first.writes store agrees)
 key_agrees root key None None old new reads store agrees = agrees_before reads agrees
-key_agrees root key None (Some value) old new form = form_agrees root key None old new form
+key_agrees root key None (Some value) old new form store agrees = form_agrees root key None old new form store agrees
 
 pub keys_agree : (root : ℕ) (changes : List Change) (found : List (Option (List ℕ))) (old new : Seen) → ChangesKeys root changes found old new → (store : Store) → Agrees store new → Agrees store old
 keys_agree root [] found old new done store agrees = subst (Agrees store) done.1 agrees

@@ -3,9 +3,6 @@ use Rattle.std.proofs.Common.{◌≡◌, ◌⊎◌, inl, inr, ℕ, zero, suc, �
 use Rattle.std.proofs.lemmas.List.{length-reverse}
 use Rattle.sea_base.specs.Space.{Store, Seen}
 use Rattle.sea_node.specs.Entries.{Entry}
-use Rattle.sea_tree.specs.declared.edit.Edit.{Edit}
-use Rattle.sea_tree.specs.declared.path.Step.{Step}
-use Rattle.sea_tree.specs.declared.splice.Splice.{Splice}
 use Rattle.sea_tree.specs.Tree.{Bounds}
 use Rattle.sea_tree.specs.Path.{Descends}
 use Rattle.sea_tree.specs.Does.{Change}
@@ -23,13 +20,13 @@ root_gives level root entries old new before changes (inr (inr (inl collapses)))
 root_gives level root entries old new before changes (inr (inr (inr empties))) = omega (arith, empties.next)
 
 -- and a node below it takes one
-node_gives : (level at : ℕ) (entries : List Entry) (step : Step) (old new : Seen) (changes : List Change) (left : Option Edit) → Rebalanced level at entries step old new changes left → new.next ≤ old.next + 1
+node_gives : (level at : ℕ) (entries : List Entry) (step : _) (old new : Seen) (changes : List Change) (left : Option _) → Rebalanced level at entries step old new changes left → new.next ≤ old.next + 1
 node_gives level at entries step old new changes left (inl fits) = omega (arith, fits.next)
 node_gives level at entries step old new changes left (inr (inl splits)) = omega (arith, splits.next)
 node_gives level at entries step old new changes left (inr (inr (inl merges))) = omega (arith, merges.next)
 node_gives level at entries step old new changes left (inr (inr (inr redistributes))) = omega (arith, redistributes.next)
 
-rises_give : (steps : List Step) (level at : ℕ) (entries : List Entry) (edit : Edit) (now end : Seen) (before done : List Change) (splice : Option Splice) → Rises steps level at entries edit now end before done splice → end.next ≤ now.next + (length steps + 2)
+rises_give : (steps : List _) (level at : ℕ) (entries : List Entry) (edit : _) (now end : Seen) (before done : List Change) (splice : Option _) → Rises steps level at entries edit now end before done splice → end.next ≤ now.next + (length steps + 2)
 rises_give [] level at entries edit now end before done splice rises =
     omega (arith, root_gives level at (after_edit edit entries) now end before rises.0 rises.1)
 rises_give (step ∷ steps) level at entries edit now end before done splice (mid, added, None, how, ends) =
@@ -38,13 +35,13 @@ rises_give (step ∷ steps) level at entries edit now end before done splice (mi
     omega (arith, node_gives level at (after_edit edit entries) step now mid added (Some next) how, rises_give steps step.node.level step.at.0 step.node.entries next mid end _ done splice on)
 
 -- a path has at most seven steps
-steps_down : (store : Store) (level at : ℕ) (bounds : Bounds) (steps : List Step) (key : List ℕ) (last_level last : ℕ) (last_bounds : Bounds) → Descends store level at bounds steps key last_level last last_bounds → length steps ≤ level
+steps_down : (store : Store) (level at : ℕ) (bounds : Bounds) (steps : List _) (key : List ℕ) (last_level last : ℕ) (last_bounds : Bounds) → Descends store level at bounds steps key last_level last last_bounds → length steps ≤ level
 steps_down store level at bounds [] key last_level last last_bounds down = omega arith
 steps_down store zero at bounds (step ∷ steps) key last_level last last_bounds down = absurd down
 steps_down store (suc level) at bounds (step ∷ steps) key last_level last last_bounds down =
     omega (arith, steps_down store level down.0 down.1 steps key last_level last last_bounds down.3)
 
-few_steps : (store : Store) (level at : ℕ) (bounds : Bounds) (steps : List Step) (key : List ℕ) (last_level last : ℕ) (last_bounds : Bounds) → Descends store level at bounds steps key last_level last last_bounds → length steps ≤ 7
+few_steps : (store : Store) (level at : ℕ) (bounds : Bounds) (steps : List _) (key : List ℕ) (last_level last : ℕ) (last_bounds : Bounds) → Descends store level at bounds steps key last_level last last_bounds → length steps ≤ 7
 few_steps store level at bounds [] key last_level last last_bounds down = omega arith
 few_steps store zero at bounds (step ∷ steps) key last_level last last_bounds down = absurd down
 few_steps store (suc level) at bounds (step ∷ steps) key last_level last last_bounds down =

@@ -1,18 +1,32 @@
 -- Keys changed one by one in a loop: one more, the end, and one that failed.
-use Rattle.std.proofs.Common.{◌≡◌, ℕ, suc, ◌+◌, ◌-◌, ◌*◌, ◌<◌, ◌≤◌, ◌^◌, List, [], ◌∷◌, ◌++◌, length, map, get_or, take, drop, Bool, cond, Option, Some, None, refl, sym, ap, subst, ◌∙◌, arith}
+use Rattle.std.proofs.Common.{◌≡◌, ℕ, suc, ◌+◌, ◌-◌, ◌*◌, ◌<◌, ◌≤◌, ◌^◌, List, [], ◌∷◌, ◌++◌, length, map, get_or, take, drop, Bool, cond, Option, Some, None, is_some, is_none, refl, sym, ap, subst, ◌∙◌, arith}
 use Rattle.std.specs.List.{count_by}
+use Rattle.std.proofs.Math.ListN.{get_or-map}
 use Rattle.std.proofs.Math.Seq.{drop-cons}
-use Rattle.std.proofs.lemmas.List.{take_more, take-append-drop, length-take, length-map}
+use Rattle.std.proofs.lemmas.List.{take_all, take_more, take-append-drop, length-take, length-map}
 use Rattle.std.proofs.lemmas.List.Sums.{sum_by-append, count_by-le-length}
 use Rattle.sea_base.specs.Space.{Store, Seen}
-use Rattle.sea_node.specs.Entries.{Values}
+use Rattle.std.specs.FinMap as finite
+use Rattle.sea_node.specs.Entries.{Entry, Values}
+use Rattle.sea_object.specs.Objects.{with_pairs, without_keys}
 use Rattle.sea_tree.specs.declared.fault.TreeFault.{TreeFault}
 use Rattle.sea_tree.specs.Calls.{ChangeFailure}
 use Rattle.sea_tree.specs.Does.{ChangesAtMost}
-use Rattle.sea_omap.specs.Changes.{Change, ChangesKey, ChangesKeys}
+use Rattle.sea_omap.specs.Changes.{Change, puts, removals, ChangesKey, ChangesKeys}
 use Rattle.sea_omap.specs.Calls.{Counts, Fails, Footprint, Meets, Becomes}
 use Rattle.sea_omap.proofs.Chains.{changes_more, keys_few}
+use Rattle.sea_omap.proofs.Contents.{found_in, after_puts, after_removals, puts_counted, removals_counted}
 use Rattle.sea_omap.proofs.Stores.{Makes, keys_make, never_full}
+
+-- the change of an item of a list, at its index
+pub change_at : {X : Type 0} (f : X → Change) (xs ys : List X) (i : ℕ) (item : X) → ys ≡ xs → i < length ys → item ≡ get_or ys i item → (i < length (map f xs)) × (get_or (map f xs) i (f item) ≡ f item)
+change_at f xs ys i item same within is = (
+  omega (arith, length-map xs f, ap length same),
+  get_or-map f xs i item ∙ ap (λ (l : List _). f (get_or l i item)) (sym same) ∙ sym (ap f is),
+)
+
+pub all_changes : {X : Type 0} (f : X → Change) (xs ys : List X) (i : ℕ) → ys ≡ xs → length ys ≤ i → take i (map f xs) ≡ map f xs
+all_changes f xs ys i same past = take_all i (map f xs) (omega (arith, length-map xs f, ap length same))
 
 -- none so far
 pub counts_none : (root : ℕ) (changes : List Change) (test : Option (List ℕ) → Bool) (old : Seen) → Counts root (take 0 changes) test 0 old old
@@ -59,3 +73,15 @@ has_footprint root changes test count keys old new all done = record {
   changes = λ store content meets. (keys_make store root changes done.found content old new done.changed meets).changed;
   few = subst (λ (n : ℕ). ChangesAtMost (n * 17) old new) (sym all) (keys_few root changes done.found old new done.changed);
 }
+
+pub set_becomes : (root : ℕ) (pairs : List Entry) (count : ℕ) (old new : Seen) → Counts root (puts pairs) is_none count old new → (store : Store) (content : Values) → Meets store root old new content → (finite.len (with_pairs pairs content) ≡ finite.len content + count) × Becomes store root old new (with_pairs pairs content)
+set_becomes root pairs count old new done store content meets =
+    let made = keys_make store root (puts pairs) done.found content old new done.changed meets in
+    let same : count ≡ count_by is_none (found_in (puts pairs) content) = done.counted ∙ ap (count_by is_none) made.found_is in
+    (omega (arith, same, puts_counted pairs content), subst (Becomes store root old new) (after_puts pairs content) made.becomes)
+
+pub unset_becomes : (root : ℕ) (keys : List (List ℕ)) (count : ℕ) (old new : Seen) → Counts root (removals keys) is_some count old new → (store : Store) (content : Values) → Meets store root old new content → (finite.len content ≡ finite.len (without_keys keys content) + count) × Becomes store root old new (without_keys keys content)
+unset_becomes root keys count old new done store content meets =
+    let made = keys_make store root (removals keys) done.found content old new done.changed meets in
+    let same : count ≡ count_by is_some (found_in (removals keys) content) = done.counted ∙ ap (count_by is_some) made.found_is in
+    (omega (arith, same, removals_counted keys content), subst (Becomes store root old new) (after_removals keys content) made.becomes)

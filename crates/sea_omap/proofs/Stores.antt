@@ -1,10 +1,11 @@
 -- What keys changed one after the other do to a store in which their tree stands.
-use Rattle.std.proofs.Common.{◌≡◌, ◌≢◌, ◌⊎◌, inl, inr, ℕ, ◌+◌, ◌-◌, ◌<◌, ◌≤◌, ◌^◌, List, [], ◌∷◌, ◌++◌, length, Option, Some, None, true, refl, sym, ap, subst, ◌∙◌, arith}
+use Rattle.std.proofs.Common.{◌≡◌, ◌≢◌, ◌⊎◌, inl, inr, ℕ, zero, suc, ◌+◌, ◌-◌, ◌<◌, ◌≤◌, ◌^◌, List, [], ◌∷◌, ◌++◌, length, Option, Some, None, true, refl, sym, ap, subst, ◌∙◌, arith}
 use Rattle.std.specs.List.{Contains, range_with_len}
 use Rattle.std.proofs.lemmas.Bool.{cases_lt, cases_eq}
 use Rattle.std.proofs.lemmas.List.{length-append}
 use Rattle.std.proofs.lemmas.List.FromFn.{length-range_with_len, get_or-range_with_len}
 use Rattle.std.proofs.lemmas.List.Elements.{Contains-append_left, Contains-append_right}
+use Rattle.std.specs.FinMap as finite
 use Rattle.sea_base.specs.Space.{Store, Seen, Agrees, laid}
 use Rattle.sea_node.specs.Entries.{Entry, Values}
 use Rattle.sea_tree.specs.declared.fault.TreeFault.{TreeFault}
@@ -215,7 +216,7 @@ keys_make store root (change ∷ changes) (here ∷ found) content old new (mid,
     let before : (at : ℕ) → IsOwn store root mid new at → IsOwn store root old new at = own_before store root old mid new content second meets agrees low high one in
     let own : (at : ℕ) → (at ≡ root) ⊎ (IsNodeOf (laid old store) root at ⊎ IsGiven old mid at) → IsOwn store root old new at = own_first store root old mid new content second meets agrees low high one in
     record {
-      found_is = ap (λ (f : Option (List ℕ)). f ∷ found) did.0 ∙ ap (λ (fs : List (Option (List ℕ))). _ ∷ fs) later.found_is;
+      found_is = ap (λ (f : Option (List ℕ)). f ∷ found) did.0 ∙ ap (λ (fs : List (Option (List ℕ))). finite.get content change.0 ∷ fs) later.found_is;
       becomes = becomes_then store root old mid new content second meets agrees low high one (content_after changes second) later.becomes;
       reads = λ at. elim (later.reads at) [
         | inr is_own ↦ inr (before at is_own)
