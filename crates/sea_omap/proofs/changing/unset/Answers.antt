@@ -30,8 +30,8 @@ counted (Some value) b m n e (inr absent) = absurd (let f = absent.0 in cc)
 pub returns-in_err-del-clause-failure : goal.returns-in_err-del-clause-failure
 returns-in_err-del-clause-failure g c =
     let p = err_from_is_err_and c.from_residual.result c.from_residual.ensures.1 in
-    let at = change_at this c.args.keys.now c.items-key-items.result.now c.loop-key.key-index c.loop-key-item.result c.items-key-items.ensures c.loop-key-test.true c.loop-key-item.is in
-    rw (p.1, p.2) (fails_at c.args.root.0 (removals c.args.keys.now) c.loop-key.key-index (this c.loop-key-item.result) is_some c.loop-key.gone (g.S.Space.seen c.args.space.now) (g.S.Space.seen c.loop-key.space) (g.S.Space.seen c.del.new.space) c.in_err-del.field-0.0
+    let at = change_at this c.args.keys.now c.items-key-items.result.now c.loop-key.key-index c.key-item.result c.items-key-items.ensures c.loop-key-test.true c.key-item.is in
+    rw (p.1, p.2) (fails_at c.args.root.0 (removals c.args.keys.now) c.loop-key.key-index (this c.key-item.result) is_some c.loop-key.gone (g.S.Space.seen c.args.space.now) (g.S.Space.seen c.loop-key.space) (g.S.Space.seen c.del.new.space) c.in_err-del.field-0.0
     at.0 (omega (arith, length-map c.args.keys.now this)) at.1 c.loop-key.invariant.did c.in_err-del.ensures.failure)
 
 pub returns-in_err-del-clause-call : goal.returns-in_err-del-clause-call
@@ -50,8 +50,8 @@ loop-key-preserved g c =
     let mid = g.S.Space.seen c.loop-key.space in
     let new = g.S.Space.seen c.del.new.space in
     let was = c.loop-key.invariant in
-    let item = c.loop-key-item.result in
-    let at = change_at this c.args.keys.now c.items-key-items.result.now c.loop-key.key-index item c.items-key-items.ensures c.loop-key-test.true c.loop-key-item.is in
+    let item = c.key-item.result in
+    let at = change_at this c.args.keys.now c.items-key-items.result.now c.loop-key.key-index item c.items-key-items.ensures c.loop-key-test.true c.key-item.is in
     let found = c.in_ok-del.field-0 in
     let did = c.in_ok-del.ensures in
     let form = removal_form c.args.root.0 item found mid new did.form in
