@@ -10,11 +10,9 @@ use Rattle.sea_base.specs.Space.{Store, Seen, IsKnown, IsSound, Agrees, OnlyRead
 use Rattle.sea_node.specs.Entries.{Entry, Values, key_order}
 use Rattle.sea_node.proofs.Keys.{same_key, key_order-itself}
 use Rattle.sea_tree.specs.declared.path.Step.{Step}
-use Rattle.sea_tree.specs.declared.path.Path.{Path}
 use Rattle.sea_tree.specs.Tree.{Bounds, root_bounds, LiesWithin}
 use Rattle.sea_tree.specs.Content.{HasContent}
-use Rattle.sea_tree.specs.Place.{meant}
-use Rattle.sea_tree.specs.Path.{IsPath, IsKnownPath}
+use Rattle.sea_tree.specs.Path.{IsPath, LeafPath, IsLeafPath}
 use Rattle.sea_tree.proofs.Contents.{only_empty}
 use Rattle.sea_tree.proofs.Holding.{Contains-later}
 use Rattle.sea_tree.proofs.Paths.{leaf_leads, path_laid, laid_same}
@@ -58,9 +56,9 @@ leaf_find s level root steps key leaf es b content path holds q lies = by (find 
     by None h = none h (map.get content q) refl
 
 module _ (old new : Seen) (root : ℕ) (reads : OnlyRead old new) (sound : IsSound new) (store : Store) (content : Values) (agrees : Agrees store new) (holds : HasContent (laid old store) root content) where
-  pub known_find : (key : List ℕ) (path : Path) → IsKnownPath new root key path → (q : List ℕ) → LiesWithin q (meant path.bounds) → find key_order q path.leaf.entries ≡ map.get content q
+  pub known_find : (key : List ℕ) (path : LeafPath) → IsLeafPath new root key path → (q : List ℕ) → LiesWithin q path.bounds → find key_order q path.entries ≡ map.get content q
   known_find key path known q lies =
-      leaf_find (laid old store) known.down.top root path.steps.items key path.at.0 path.leaf.entries (meant path.bounds) content (path_laid old new store root key path reads sound agrees known) holds q lies
+      leaf_find (laid old store) known.top root path.steps key path.at path.entries path.bounds content (path_laid old new store root key path reads sound agrees known) holds q lies
 
   pub known_empty : IsKnown new root → new.view root ≡ None → (q : List ℕ) → map.get content q ≡ None
   known_empty known none q = ap (λ (m : Values). map.get m q) (only_empty (laid old store) root content (sym (laid_same old new store reads sound agrees root known) ∙ none) holds) ∙ map.get-empty key_order q

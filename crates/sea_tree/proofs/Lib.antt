@@ -4,6 +4,7 @@ pub mod Climbs
 pub mod Contents
 pub mod Counting
 pub mod Cuts
+pub mod Cursors
 pub mod Doing
 pub mod Forms
 pub mod Frames

@@ -77,7 +77,7 @@ lies_below : (key : List ℕ) (after : List Entry) (upper : Option (List ℕ)) �
 lies_below key [] upper above within = within
 lies_below key (e ∷ after) upper above within = above.0
 
-one_below : (n : ℕ) → 1 ≤ n → n ≡ suc (n - 1)
+pub one_below : (n : ℕ) → 1 ≤ n → n ≡ suc (n - 1)
 one_below n some = omega arith
 
 -- the entry whose child is next on the path
@@ -88,6 +88,7 @@ pub record Turns (key : List ℕ) (bounds : Bounds) (upper : Option (List ℕ)) 
   pub found : lookup.found ≡ Some entry
   pub split : Splits entries (length before) before entry after
   pub address : length entry.1 ≡ 8
+  pub front : lookup.next ≡ front_key after
   pub next : option_or lookup.next upper ≡ next_key after bounds.upper
   pub leads : LiesWithin key (child_bounds entry after bounds.upper)
 
@@ -108,6 +109,7 @@ module _ (seen : Seen) (root : ℕ) (key : List ℕ) (upper : Option (List ℕ))
         found = is;
         split = record { split = split; count = refl };
         address = All-middle (λ (e : Entry). length e.1 ≡ 8) looks.entries before after e split (looks.down.node.0.spells.node.children above).1;
+        front = next;
         next = next_is after lookup.next upper looks.bounds.upper next looks.upper_is;
         leads = (le, lies_below key after looks.bounds.upper higher looks.down.leads.1);
       }

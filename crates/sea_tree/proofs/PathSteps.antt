@@ -121,7 +121,7 @@ module _ (old new : Seen) (root : ℕ) (key : List ℕ) (reads : OnlyRead old ne
 
 pub whole_path : (old new : Seen) (root : ℕ) (key : List ℕ) (path : Path) → OnlyRead old new → IsSound new → IsKnownPath new root key path → IsWholePath root key old new
 whole_path old new root key path reads sound known = λ store at agrees breaks.
-    no_break (laid old store) known.down.top root path.steps.items key path.at.0 path.leaf.entries (meant path.bounds) at (path_laid old new store root key path reads sound agrees known) breaks
+    no_break (laid old store) known.down.top root path.steps.items key path.at.0 path.leaf.entries (meant path.bounds) at (path_laid old new store root key (record { steps = path.steps.items; at = path.at.0; bounds = meant path.bounds; entries = path.leaf.entries }) reads sound agrees known.down) breaks
 
 pub empty_path : (old new : Seen) (root : ℕ) (key : List ℕ) → OnlyRead old new → IsSound new → IsKnown new root → new.view root ≡ None → IsWholePath root key old new
 empty_path old new root key reads sound known none = λ store at agrees breaks.

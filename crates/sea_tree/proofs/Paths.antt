@@ -8,12 +8,10 @@ use Rattle.sea_base.specs.Name.{IsName}
 use Rattle.sea_node.specs.Entries.{Entry, IsBelow, IsRising}
 use Rattle.sea_node.proofs.Keys.{IsNotAbove-itself, IsNotAbove-below, below_or_same, not_above_or_below, not_above_then_below, not_below_itself}
 use Rattle.sea_tree.specs.declared.path.Step.{Step}
-use Rattle.sea_tree.specs.declared.path.Path.{Path}
 use Rattle.sea_tree.specs.Tree.{NodeAt, Bounds, root_bounds, LiesWithin, IsWithin, IsInPlace, child_bounds, IsAddress}
 use Rattle.sea_tree.specs.Content.{Guides, Leads, LeadsTo}
 use Rattle.sea_tree.specs.Breaks.{HasNode, IsBroken, Child, BreaksOnPath, IsBreakOnPath}
-use Rattle.sea_tree.specs.Place.{meant}
-use Rattle.sea_tree.specs.Path.{StepsDown, Descends, IsPath, AreKnown, ComesDown, IsKnownPath}
+use Rattle.sea_tree.specs.Path.{StepsDown, Descends, IsPath, AreKnown, ComesDown, LeafPath, IsLeafPath}
 use Rattle.sea_tree.proofs.Apart.{IsWithin-below, Leads-node}
 use Rattle.sea_tree.proofs.Holding.{one_node, same_address}
 use Rattle.sea_tree.proofs.Splits.{within_none, lies_above, one_split}
@@ -69,9 +67,6 @@ ComesDown-later {old} {new} {root} {key} {steps} {level} {at} {bounds} {entries}
       leads = down.leads;
     }
 
-pub IsKnownPath-later : {old new : Seen} {root : ℕ} {key : List ℕ} {path : Path} → OnlyRead old new → IsKnownPath old root key path → IsKnownPath new root key path
-IsKnownPath-later r known = record { leaf_level = known.leaf_level; down = ComesDown-later r known.down }
-
 -- ---- one step more, or less
 
 pub Descends-push : (s : Store) (level at : ℕ) (bounds : Bounds) (steps : List Step) (key : List ℕ) (n q : ℕ) (b : Bounds) (step : Step) (child : ℕ) (below : Bounds) → Descends s level at bounds steps key (suc n) q b → StepsDown s n q b step key child below → Descends s level at bounds (steps ++ step ∷ []) key n child below
@@ -99,10 +94,10 @@ Descends-laid old new store root key steps level at bounds entries r sound agree
       HasNode-same new new.view (laid old store) same level at bounds entries down.known down.node,
     )
 
-pub path_laid : (old new : Seen) (store : Store) (root : ℕ) (key : List ℕ) (path : Path) → OnlyRead old new → IsSound new → Agrees store new → (known : IsKnownPath new root key path) → IsPath (laid old store) known.down.top root root_bounds path.steps.items key path.at.0 path.leaf.entries (meant path.bounds)
+pub path_laid : (old new : Seen) (store : Store) (root : ℕ) (key : List ℕ) (path : LeafPath) → OnlyRead old new → IsSound new → Agrees store new → (known : IsLeafPath new root key path) → IsPath (laid old store) known.top root root_bounds path.steps key path.at path.entries path.bounds
 path_laid old new store root key path r sound agrees known =
-    let l = Descends-laid old new store root key path.steps.items 0 path.at.0 (meant path.bounds) path.leaf.entries r sound agrees known.down in
-    (l.0, l.1, known.down.leads)
+    let l = Descends-laid old new store root key path.steps 0 path.at path.bounds path.entries r sound agrees known in
+    (l.0, l.1, known.leads)
 
 -- ---- the node that a path begins at
 

@@ -10,42 +10,26 @@ use Rattle.std.specs.FinMap as map
 use Rattle.sea_base.specs.Space.{Store, Seen, IsKnown, IsSound, Agrees, OnlyRead, laid}
 use Rattle.sea_node.specs.Entries.{Entry, Values, IsNotAbove}
 use Rattle.sea_node.proofs.Keys.{IsNotAbove-trans, IsNotAbove-below, below_then_not_above, not_above_then_below, least_key}
-use Rattle.sea_tree.specs.declared.path.Path.{Path}
 use Rattle.sea_tree.specs.Tree.{Bounds, root_bounds, IsWithin, LiesWithin}
 use Rattle.sea_tree.specs.Content.{HasContent}
 use Rattle.sea_tree.specs.Calls.{pairs_above}
-use Rattle.sea_tree.specs.Place.{meant}
-use Rattle.sea_tree.specs.Path.{IsKnownPath}
+use Rattle.sea_tree.specs.Path.{LeafPath, IsLeafPath}
 use Rattle.sea_tree.specs.Range.{is_above, entries_above, pairs_upto, BeginsBelow, IsNextPath}
 use Rattle.sea_tree.proofs.Apart.{IsWithin-below}
-use Rattle.sea_tree.proofs.Paths.{IsKnownPath-later, first_node, leads_name, next_lower}
+use Rattle.sea_tree.proofs.Paths.{ComesDown-later, first_node, leads_name, next_lower}
 use Rattle.sea_tree.proofs.Leaves.{known_find, known_empty}
 use Rattle.sea_tree.proofs.Ranges.{upto_leaf, none_upto, no_pairs, above_is}
 
 -- ---- the next path
 
-pub next_path : (mid new : Seen) (root : ℕ) (key u : List ℕ) (path next : Path) → OnlyRead mid new → IsKnownPath mid root key path → path.bounds.upper ≡ Some u → IsKnownPath new root u next → IsNextPath new root path next
+pub next_path : (mid new : Seen) (root : ℕ) (key u : List ℕ) (path next : LeafPath) → OnlyRead mid new → IsLeafPath mid root key path → path.bounds.upper ≡ Some u → IsLeafPath new root u next → IsNextPath new root path next
 next_path mid new root key u path next reads known upper further =
-    let still : IsKnownPath new root key path = IsKnownPath-later reads known in record {
+    let still : IsLeafPath new root key path = ComesDown-later reads known in record {
       key = u;
       upper = upper;
-      lower = next_lower new.view still.down.top further.down.top root path.steps.items next.steps.items key u path.at.0 next.at.0 path.leaf.entries next.leaf.entries (meant path.bounds) (meant next.bounds) (still.down.descent, still.down.node, still.down.leads) (further.down.descent, further.down.node, further.down.leads) upper;
+      lower = next_lower new.view still.top further.top root path.steps next.steps key u path.at next.at path.entries next.entries path.bounds next.bounds (still.descent, still.node, still.leads) (further.descent, further.node, further.leads) upper;
       known = further;
     }
-
-pub not_empty : (mid new : Seen) (root : ℕ) (key : List ℕ) (path : Path) → OnlyRead mid new → IsKnownPath mid root key path → new.view root ≡ None → ⊥
-not_empty mid new root key path reads known none =
-    let still : IsKnownPath new root key path = IsKnownPath-later reads known in
-    let top = first_node new.view still.down.top root root_bounds path.steps.items key 0 path.at.0 (meant path.bounds) path.leaf.entries still.down.descent still.down.node in
-    let here = sym none ∙ top.1.0.here in cc
-
-pub next_found : (mid new : Seen) (root : ℕ) (key u : List ℕ) (path : Path) (found : Option Path) → OnlyRead mid new → IsKnownPath mid root key path → path.bounds.upper ≡ Some u → IfSome found (IsKnownPath new root u) → IfSome found (IsNextPath new root path)
-next_found mid new root key u path None reads known upper further = tt
-next_found mid new root key u path (Some next) reads known upper further = next_path mid new root key u path next reads known upper further
-
-pub none_found : (mid new : Seen) (root : ℕ) (key : List ℕ) (path : Path) (found : Option Path) → OnlyRead mid new → IsKnownPath mid root key path → IfNone found (new.view root ≡ None) → IfNone found (path.bounds.upper ≡ None)
-none_found mid new root key path None reads known none = absurd (not_empty mid new root key path reads known none)
-none_found mid new root key path (Some next) reads known none = tt
 
 -- ---- what a leaf adds
 
@@ -57,14 +41,14 @@ lower_within b key lies = by b.upper lies.1
     by (Some u) h = not_above_then_below b.lower key u lies.0 h
 
 module _ (old new : Seen) (root : ℕ) (reads : OnlyRead old new) (sound : IsSound new) (store : Store) (content : Values) (agrees : Agrees store new) (holds : HasContent (laid old store) root content) where
-  leaf_upto : (after : Option (List ℕ)) (key : List ℕ) (path : Path) → IsKnownPath new root key path → pairs_upto path.bounds.upper after content ≡ pairs_upto (Some path.bounds.lower) after content ++ entries_above after path.leaf.entries
+  leaf_upto : (after : Option (List ℕ)) (key : List ℕ) (path : LeafPath) → IsLeafPath new root key path → pairs_upto path.bounds.upper after content ≡ pairs_upto (Some path.bounds.lower) after content ++ entries_above after path.entries
   leaf_upto after key path known =
-      upto_leaf after content (meant path.bounds) path.leaf.entries known.down.node.0.spells.node.rising known.down.node.1 (lower_within (meant path.bounds) key known.down.leads) (known_find old new root reads sound store content agrees holds key path known)
+      upto_leaf after content path.bounds path.entries known.node.0.spells.node.rising known.node.1 (lower_within path.bounds key known.leads) (known_find old new root reads sound store content agrees holds key path known)
 
   -- a range begins with the pairs of its first leaf
-  pub first_taken : (after : Option (List ℕ)) (path : Path) → IsKnownPath new root (unwrap_or after (0 ∷ [])) path → pairs_upto path.bounds.upper after content ≡ entries_above after path.leaf.entries
+  pub first_taken : (after : Option (List ℕ)) (path : LeafPath) → IsLeafPath new root (unwrap_or after (0 ∷ [])) path → pairs_upto path.bounds.upper after content ≡ entries_above after path.entries
   first_taken after path known =
-      leaf_upto after (unwrap_or after (0 ∷ [])) path known ∙ ap (λ (es : List Entry). es ++ entries_above after path.leaf.entries) (none_upto after content path.bounds.lower (λ q v above has. IsNotAbove-trans path.bounds.lower (unwrap_or after (0 ∷ [])) q known.down.leads.0 (by after q v above has)))
+      leaf_upto after (unwrap_or after (0 ∷ [])) path known ∙ ap (λ (es : List Entry). es ++ entries_above after path.entries) (none_upto after content path.bounds.lower (λ q v above has. IsNotAbove-trans path.bounds.lower (unwrap_or after (0 ∷ [])) q known.leads.0 (by after q v above has)))
     where
       less : (o : Ordering) → is_lt o ≡ true → o ≡ Less
       less Less e = refl
@@ -78,10 +62,10 @@ module _ (old new : Seen) (root : ℕ) (reads : OnlyRead old new) (sound : IsSou
           least_key q (leads_name (laid old store) leads.0 root q v leads.1)
 
   -- and goes on with those of the next
-  pub next_taken : (after : Option (List ℕ)) (path next : Path) → IsNextPath new root path next → pairs_upto next.bounds.upper after content ≡ pairs_upto path.bounds.upper after content ++ entries_above after next.leaf.entries
+  pub next_taken : (after : Option (List ℕ)) (path next : LeafPath) → IsNextPath new root path next → pairs_upto next.bounds.upper after content ≡ pairs_upto path.bounds.upper after content ++ entries_above after next.entries
   next_taken after path next is =
       let joint : Some next.bounds.lower ≡ path.bounds.upper = ap Some is.lower ∙ sym is.upper in
-      leaf_upto after is.key next is.known ∙ ap (λ (u : Option (List ℕ)). pairs_upto u after content ++ entries_above after next.leaf.entries) joint
+      leaf_upto after is.key next is.known ∙ ap (λ (u : Option (List ℕ)). pairs_upto u after content ++ entries_above after next.entries) joint
 
   pub none_taken : (after : Option (List ℕ)) → IsKnown new root → new.view root ≡ None → pairs_above after content ≡ []
   none_taken after known none = sym (above_is after content) ∙ ap (entries_above after) (no_pairs content (known_empty old new root reads sound store content agrees holds known none))
@@ -95,17 +79,17 @@ first_is (Some x) d r low e least = ap (λ (b : Bor (List ℕ)). b.now) e
 
 -- and that each further leaf adds to it
 
-pub begins_first : (seen : Seen) (root : ℕ) (after : Option (List ℕ)) (path : Path) → IsKnownPath seen root (unwrap_or after (0 ∷ [])) path → BeginsBelow after path.bounds.upper
+pub begins_first : (seen : Seen) (root : ℕ) (after : Option (List ℕ)) (path : LeafPath) → IsLeafPath seen root (unwrap_or after (0 ∷ [])) path → BeginsBelow after path.bounds.upper
 begins_first seen root None path known = tt
-begins_first seen root (Some bound) path known = known.down.leads.1
+begins_first seen root (Some bound) path known = known.leads.1
 
-pub begins_next : (seen : Seen) (root : ℕ) (after : Option (List ℕ)) (path next : Path) → IsNextPath seen root path next → BeginsBelow after path.bounds.upper → BeginsBelow after next.bounds.upper
+pub begins_next : (seen : Seen) (root : ℕ) (after : Option (List ℕ)) (path next : LeafPath) → IsNextPath seen root path next → BeginsBelow after path.bounds.upper → BeginsBelow after next.bounds.upper
 begins_next seen root None path next is begins = tt
 begins_next seen root (Some bound) path next is begins =
-    IsWithin-below bound is.key next.bounds.upper (subst (IsWithin bound) is.upper begins) is.known.down.leads.1
+    IsWithin-below bound is.key next.bounds.upper (subst (IsWithin bound) is.upper begins) is.known.leads.1
 
-pub adds_some : (seen : Seen) (root : ℕ) (after : Option (List ℕ)) (path next : Path) → IsNextPath seen root path next → BeginsBelow after path.bounds.upper → 1 ≤ length (entries_above after next.leaf.entries)
-adds_some seen root after path next is begins = by next.leaf.entries is.known.down.node.0.spells.node.some is.known.down.node.1.lower
+pub adds_some : (seen : Seen) (root : ℕ) (after : Option (List ℕ)) (path next : LeafPath) → IsNextPath seen root path next → BeginsBelow after path.bounds.upper → 1 ≤ length (entries_above after next.entries)
+adds_some seen root after path next is begins = by next.entries is.known.node.0.spells.node.some is.known.node.1.lower
   where
     above : (after : Option (List ℕ)) (k : List ℕ) → BeginsBelow after path.bounds.upper → IsNotAbove next.bounds.lower k → is_above after k ≡ true
     above None k begins le = refl

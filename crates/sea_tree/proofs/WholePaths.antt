@@ -15,14 +15,12 @@ use Rattle.sea_node.proofs.Keys.{least_key, not_above_not_below, compared, below
 use Rattle.sea_tree.specs.declared.fault.TreeFault.{TreeFault}
 use Rattle.sea_tree.specs.declared.fault.TreeFault.TheVariants.{Space, Broken}
 use Rattle.sea_tree.specs.declared.path.Step.{Step}
-use Rattle.sea_tree.specs.declared.path.Path.{Path}
 use Rattle.sea_tree.specs.Tree.{Bounds, LiesWithin, IsWithin, root_bounds}
 use Rattle.sea_tree.specs.Breaks.{IsBreakOnPath}
 use Rattle.sea_tree.specs.Calls.{IsWholePath, AreWholePaths, IsPathFault, IsRangeFault}
-use Rattle.sea_tree.specs.Place.{meant}
 use Rattle.sea_tree.specs.Reads.{IsOnPath, ReadsAmong, ReadsPath, ReadsRange, ReadsNothing}
 use Rattle.sea_tree.specs.Range.{IsNextPath, entries_above, is_above}
-use Rattle.sea_tree.specs.Path.{Descends, IsKnownPath}
+use Rattle.sea_tree.specs.Path.{Descends, LeafPath, IsLeafPath}
 use Rattle.sea_tree.proofs.Apart.{IsWithin-below}
 use Rattle.sea_tree.proofs.Walks.{one_store}
 use Rattle.sea_tree.proofs.Paths.{path_lies, path_laid, no_break}
@@ -51,18 +49,18 @@ descends_for s (suc level) at bounds (step ∷ steps) key n q b k d lies = (
 )
 
 module _ (old new : Seen) (root : ℕ) (reads : OnlyRead old new) (sound : IsSound new) where
-  leaf_whole : (key k : List ℕ) (path : Path) → IsKnownPath new root key path → LiesWithin k (meant path.bounds) → IsWholePath root k old new
+  leaf_whole : (key k : List ℕ) (path : LeafPath) → IsLeafPath new root key path → LiesWithin k path.bounds → IsWholePath root k old new
   leaf_whole key k path known lies store at agrees breaks =
       let path_is = path_laid old new store root key path reads sound agrees known in
-      no_break (laid old store) known.down.top root path.steps.items k path.at.0 path.leaf.entries (meant path.bounds) at
-      (descends_for (laid old store) known.down.top root root_bounds path.steps.items key 0 path.at.0 (meant path.bounds) k path_is.0 lies, path_is.1, lies) breaks
+      no_break (laid old store) known.top root path.steps k path.at path.entries path.bounds at
+      (descends_for (laid old store) known.top root root_bounds path.steps key 0 path.at path.bounds k path_is.0 lies, path_is.1, lies) breaks
 
   -- the first leaf
-  pub whole_first : (from : List ℕ) (path : Path) → IsKnownPath new root from path → AreWholePaths root from path.bounds.upper old new
-  whole_first from path known k above within = leaf_whole from k path known (IsNotAbove-trans path.bounds.lower from k known.down.leads.0 above, within)
+  pub whole_first : (from : List ℕ) (path : LeafPath) → IsLeafPath new root from path → AreWholePaths root from path.bounds.upper old new
+  whole_first from path known k above within = leaf_whole from k path known (IsNotAbove-trans path.bounds.lower from k known.leads.0 above, within)
 
   -- and the next
-  pub whole_next : (mid : Seen) (from : List ℕ) (path next : Path) → OnlyRead mid new → AreWholePaths root from path.bounds.upper old mid → IsNextPath new root path next → AreWholePaths root from next.bounds.upper old new
+  pub whole_next : (mid : Seen) (from : List ℕ) (path next : LeafPath) → OnlyRead mid new → AreWholePaths root from path.bounds.upper old mid → IsNextPath new root path next → AreWholePaths root from next.bounds.upper old new
   whole_next mid from path next rest before is k above within = elim (compared k is.key) [
     | inl below ↦ earlier below
     | inr (inl same) ↦ later (IsNotAbove-same is.key k (sym same))
@@ -100,11 +98,11 @@ next_breaks root from old mid new (Some key) (Broken at) first rest whole begun 
 )
 
 -- a range begins within the bounds of each of its leaves
-pub begun_first : (seen : Seen) (root : ℕ) (from : List ℕ) (path : Path) → IsKnownPath seen root from path → IsWithin from path.bounds.upper
-begun_first seen root from path known = known.down.leads.1
+pub begun_first : (seen : Seen) (root : ℕ) (from : List ℕ) (path : LeafPath) → IsLeafPath seen root from path → IsWithin from path.bounds.upper
+begun_first seen root from path known = known.leads.1
 
-pub begun_next : (seen : Seen) (root : ℕ) (from : List ℕ) (path next : Path) → IsNextPath seen root path next → IsWithin from path.bounds.upper → IsWithin from next.bounds.upper
-begun_next seen root from path next is begun = IsWithin-below from is.key next.bounds.upper (subst (IsWithin from) is.upper begun) is.known.down.leads.1
+pub begun_next : (seen : Seen) (root : ℕ) (from : List ℕ) (path next : LeafPath) → IsNextPath seen root path next → IsWithin from path.bounds.upper → IsWithin from next.bounds.upper
+begun_next seen root from path next is begun = IsWithin-below from is.key next.bounds.upper (subst (IsWithin from) is.upper begun) is.known.leads.1
 
 -- and so does each pair that it takes
 all_above : (P : Entry → Type 0) (after : Option (List ℕ)) (es : List Entry) → All P es → All P (entries_above after es)
@@ -115,13 +113,13 @@ all_above P after (e ∷ es) all =
       | false ↦ all_above P after es (All-tail P e es all)
     ]
 
-pub taken_within : (seen : Seen) (root : ℕ) (key : List ℕ) (path : Path) (limit : ℕ) (after : Option (List ℕ)) (before : List Entry) → IsKnownPath seen root key path → All (λ e. IsWithin e.0 path.bounds.upper) before
-    → All (λ e. IsWithin e.0 path.bounds.upper) (take limit (before ++ entries_above after path.leaf.entries))
+pub taken_within : (seen : Seen) (root : ℕ) (key : List ℕ) (path : LeafPath) (limit : ℕ) (after : Option (List ℕ)) (before : List Entry) → IsLeafPath seen root key path → All (λ e. IsWithin e.0 path.bounds.upper) before
+    → All (λ e. IsWithin e.0 path.bounds.upper) (take limit (before ++ entries_above after path.entries))
 taken_within seen root key path limit after before known all =
-    All-take (λ (e : Entry). IsWithin e.0 path.bounds.upper) limit (before ++ entries_above after path.leaf.entries)
-    (All-append (λ (e : Entry). IsWithin e.0 path.bounds.upper) before (entries_above after path.leaf.entries) all (all_above (λ (e : Entry). IsWithin e.0 path.bounds.upper) after path.leaf.entries known.down.node.1.upper))
+    All-take (λ (e : Entry). IsWithin e.0 path.bounds.upper) limit (before ++ entries_above after path.entries)
+    (All-append (λ (e : Entry). IsWithin e.0 path.bounds.upper) before (entries_above after path.entries) all (all_above (λ (e : Entry). IsWithin e.0 path.bounds.upper) after path.entries known.node.1.upper))
 
-pub within_next : (seen : Seen) (root : ℕ) (path next : Path) (found : List Entry) → IsNextPath seen root path next → All (λ e. IsWithin e.0 path.bounds.upper) found → All (λ e. IsWithin e.0 next.bounds.upper) found
+pub within_next : (seen : Seen) (root : ℕ) (path next : LeafPath) (found : List Entry) → IsNextPath seen root path next → All (λ e. IsWithin e.0 path.bounds.upper) found → All (λ e. IsWithin e.0 next.bounds.upper) found
 within_next seen root path next found is all =
     All-weaker (λ (e : Entry). IsWithin e.0 path.bounds.upper) (λ (e : Entry). IsWithin e.0 next.bounds.upper) (λ e within. begun_next seen root e.0 path next is within) found all
 
@@ -191,11 +189,11 @@ range_none root from limit found old new wanting none reads at = elim (reads at)
 ]
 
 -- of the first leaf
-pub range_first : (root : ℕ) (after : Option (List ℕ)) (limit : ℕ) (found : List Entry) (old new : Seen) (path : Path) → 0 < limit → IsKnownPath new root (unwrap_or after (0 ∷ [])) path → found ≡ take limit ([] ++ entries_above after path.leaf.entries) → ReadsPath root (unwrap_or after (0 ∷ [])) old new
+pub range_first : (root : ℕ) (after : Option (List ℕ)) (limit : ℕ) (found : List Entry) (old new : Seen) (path : LeafPath) → 0 < limit → IsLeafPath new root (unwrap_or after (0 ∷ [])) path → found ≡ take limit ([] ++ entries_above after path.entries) → ReadsPath root (unwrap_or after (0 ∷ [])) old new
     → ReadsUpto root (unwrap_or after (0 ∷ [])) limit found path.bounds.upper old new
 range_first root after limit found old new path wanting known taken reads at = elim (reads at) [
   | inl same ↦ inl same
-  | inr on ↦ inr (λ store agrees. (from, IsNotAbove-itself from, known.down.leads.1, few, on store agrees))
+  | inr on ↦ inr (λ store agrees. (from, IsNotAbove-itself from, known.leads.1, few, on store agrees))
 ]
   where
     from : List ℕ
@@ -203,12 +201,12 @@ range_first root after limit found old new path wanting known taken reads at = e
 
     few : length (entries_before from found) < limit
     few =
-        let none : length (entries_before from (take limit ([] ++ entries_above after path.leaf.entries))) ≤ 0 = count_more from limit [] (entries_above after path.leaf.entries) (above_from after path.leaf.entries known.down.node.0.spells.node.keys) in
+        let none : length (entries_before from (take limit ([] ++ entries_above after path.entries))) ≤ 0 = count_more from limit [] (entries_above after path.entries) (above_from after path.entries known.node.0.spells.node.keys) in
         omega (arith, none, wanting, ap (λ (es : List Entry). length (entries_before from es)) taken)
 
 -- of the next one
-pub range_next : (root : ℕ) (from : List ℕ) (after : Option (List ℕ)) (limit : ℕ) (found taken : List Entry) (old mid new : Seen) (path next : Path) → OnlyRead old mid → OnlyRead mid new → IsNextPath new root path next → IsWithin from path.bounds.upper
-    → All (λ e. IsWithin e.0 path.bounds.upper) found → length found < limit → taken ≡ take limit (found ++ entries_above after next.leaf.entries)
+pub range_next : (root : ℕ) (from : List ℕ) (after : Option (List ℕ)) (limit : ℕ) (found taken : List Entry) (old mid new : Seen) (path next : LeafPath) → OnlyRead old mid → OnlyRead mid new → IsNextPath new root path next → IsWithin from path.bounds.upper
+    → All (λ e. IsWithin e.0 path.bounds.upper) found → length found < limit → taken ≡ take limit (found ++ entries_above after next.entries)
     → ReadsUpto root from limit found path.bounds.upper old mid → MatchOption path.bounds.upper (ReadsNothing mid new) (λ key. ReadsPath root key mid new) → ReadsUpto root from limit taken next.bounds.upper old new
 range_next root from after limit found taken old mid new path next first rest is begun below few is_taken before reads0 at = elim (reads at) [
   | inl same ↦ elim (before at) [
@@ -216,12 +214,12 @@ range_next root from after limit found taken old mid new path next first rest is
     | inr on ↦ inr (λ store agrees.
         let was = on store (agrees_before rest agrees) in
         let low : IsBelow was.0 is.key = subst (IsWithin was.0) is.upper was.2 in
-        (was.0, was.1, IsWithin-below was.0 is.key next.bounds.upper low is.known.down.leads.1, still was.0 (IsNotAbove-below was.0 is.key low) was.3, was.4))
+        (was.0, was.1, IsWithin-below was.0 is.key next.bounds.upper low is.known.leads.1, still was.0 (IsNotAbove-below was.0 is.key low) was.3, was.4))
   ]
   | inr on ↦ inr (λ store agrees. (
     is.key,
     IsNotAbove-below from is.key (subst (IsWithin from) is.upper begun),
-    is.known.down.leads.1,
+    is.known.leads.1,
     still is.key (IsNotAbove-itself is.key) (let all = count_all is.key found in omega (arith, all, few)),
     subst (λ (s : Store). IsOnPath s is.key root at) (one_store first store) (on store agrees),
   ))
@@ -230,14 +228,14 @@ range_next root from after limit found taken old mid new path next first rest is
     reads : ReadsPath root is.key mid new
     reads = subst (λ (u : Option (List ℕ)). MatchOption u (ReadsNothing mid new) (λ key. ReadsPath root key mid new)) is.upper reads0
 
-    own : (key : List ℕ) → IsNotAbove key is.key → All (λ e. IsNotAbove key e.0) (entries_above after next.leaf.entries)
+    own : (key : List ℕ) → IsNotAbove key is.key → All (λ e. IsNotAbove key e.0) (entries_above after next.entries)
     own key low =
-        let lower : All (λ e. IsNotAbove is.key e.0) next.leaf.entries = subst (λ (k : List ℕ). All (λ e. IsNotAbove k e.0) next.leaf.entries) is.lower is.known.down.node.1.lower in
-        all_above (λ (e : Entry). IsNotAbove key e.0) after next.leaf.entries (All-weaker (λ (e : Entry). IsNotAbove is.key e.0) (λ (e : Entry). IsNotAbove key e.0) (λ e above. IsNotAbove-trans key is.key e.0 low above) next.leaf.entries lower)
+        let lower : All (λ e. IsNotAbove is.key e.0) next.entries = subst (λ (k : List ℕ). All (λ e. IsNotAbove k e.0) next.entries) is.lower is.known.node.1.lower in
+        all_above (λ (e : Entry). IsNotAbove key e.0) after next.entries (All-weaker (λ (e : Entry). IsNotAbove is.key e.0) (λ (e : Entry). IsNotAbove key e.0) (λ e above. IsNotAbove-trans key is.key e.0 low above) next.entries lower)
 
     still : (key : List ℕ) → IsNotAbove key is.key → length (entries_before key found) < limit → length (entries_before key taken) < limit
     still key low wanting =
-        let more = count_more key limit found (entries_above after next.leaf.entries) (own key low) in
+        let more = count_more key limit found (entries_above after next.entries) (own key low) in
         omega (arith, more, wanting, ap (λ (es : List Entry). length (entries_before key es)) is_taken)
 
 -- and where there is no other

@@ -54,7 +54,18 @@ pub record ComesDown (seen : Seen) (root : ℕ) (key : List ℕ) (steps : List S
   pub known : IsKnown seen at
   pub leads : LiesWithin key bounds
 
--- What is known of a whole path to a leaf.
+-- A whole path to a leaf, and what is known of it.
+pub record LeafPath : Type 0 where
+  pub steps : List Step
+  pub at : ℕ
+  pub bounds : Bounds
+  pub entries : List Entry
+
+abbrev pub IsLeafPath : Seen → ℕ → List ℕ → LeafPath → Type 0
+IsLeafPath seen root key path =
+    ComesDown seen root key path.steps 0 path.at path.bounds path.entries
+
+-- The same of a path whose nodes are in hand.
 pub record IsKnownPath (seen : Seen) (root : ℕ) (key : List ℕ) (path : Path) : Type 0 where
   pub leaf_level : path.leaf.level ≡ 0
   pub down : ComesDown seen root key path.steps.items 0 path.at.0

@@ -2,6 +2,7 @@
 #![tactic(auto)]
 
 mod changing;
+mod cursor;
 mod cut;
 mod edit;
 mod fault;

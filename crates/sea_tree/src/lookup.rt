@@ -82,8 +82,8 @@ fn value_of(lookup: Lookup, key: &Key) -> Option<Data>
     }
 }
 
-// The address and the bounds of the child that the key leads to, in a node with this upper bound.
-fn child_of(lookup: Lookup, upper: Option<Key>) -> (Laddr, Bounds)
+/// The address and the bounds of the child that the key leads to, in a node with this upper bound.
+pub(crate) fn child_of(lookup: Lookup, upper: Option<Key>) -> (Laddr, Bounds)
     requires { MatchOption lookup.found ⊥ (λ entry. length entry.1 ≡ 8) }
     ensures address { IfSome lookup.found (λ entry. IsAddress entry.1 result.0.0) }
     ensures bounds { IfSome lookup.found
@@ -100,8 +100,8 @@ fn child_of(lookup: Lookup, upper: Option<Key>) -> (Laddr, Bounds)
     (address_of(&value), bounds)
 }
 
-// Looks at the node at an address in its place for a key.
-fn look_at<S: Space>(
+/// Looks at the node at an address in its place for a key.
+pub(crate) fn look_at<S: Space>(
     space: &mut S,
     at: Laddr,
     level: u32,
@@ -148,8 +148,12 @@ fn admits(bounds: &Bounds, lookup: &Lookup) -> bool
     }
 }
 
-// Looks at the root of a tree for a key. There is none in an empty tree.
-fn look_at_root<S: Space>(space: &mut S, root: Laddr, key: &Key) -> Result<Option<Sight>, TreeFault>
+/// Looks at the root of a tree for a key. There is none in an empty tree.
+pub(crate) fn look_at_root<S: Space>(
+    space: &mut S,
+    root: Laddr,
+    key: &Key,
+) -> Result<Option<Sight>, TreeFault>
     requires { IsReady S.Space space.old }
     ensures node { IfOk result (λ found.
         IfSome found (λ sight. (entries : List Entry)

@@ -1,9 +1,8 @@
 //! The path from the root of a tree to a leaf.
-ghost use Rattle.std.specs.Prelude.{◌≡◌, ℕ, ◌+◌, ◌<◌, ◌≤◌, None, IsTrue, MatchOption, IfOk, IfSome, IfNone, IfErr, OnOk, List};
+ghost use Rattle.std.specs.Prelude.{◌≡◌, ℕ, ◌+◌, ◌<◌, ◌≤◌, None, IsTrue, IfOk, IfSome, IfNone, IfErr, OnOk, List};
 ghost use Rattle.sea_base.specs.Space.{IsKnown, OnlyRead};
 ghost use Rattle.sea_tree.specs.Calls.{IsPathFault, IsWholePath};
-ghost use Rattle.sea_tree.specs.Reads.{ReadsPath, ReadsNothing};
-ghost use Rattle.sea_tree.specs.Range.{IsNextPath};
+ghost use Rattle.sea_tree.specs.Reads.{ReadsPath};
 ghost use Rattle.sea_tree.specs.Path.{IsKnownPath};
 ghost use Rattle.sea_base.specs.Ghosts.{IsReady, IsCall};
 ghost use Rattle.sea_tree.specs.Calls.{space_fault};
@@ -104,32 +103,4 @@ pub(crate) fn path_to<S: Space>(
         leaf: node,
         bounds,
     }))
-}
-
-/// The path to the leaf after that of another path. There is none after the last.
-pub(crate) fn path_after<S: Space>(
-    alloc: Global,
-    space: &mut S,
-    root: Laddr,
-    path: &Path,
-) -> Result<Option<Path>, TreeFault>
-    requires ready { IsReady S.Space space.old }
-    requires path { (key : List ℕ) × IsKnownPath (S.seen space.old) root.0 key path.now }
-    ensures next { IfOk result
-        (λ found. IfSome found (IsNextPath (S.seen space.new) root.0 path.now)) }
-    ensures none { IfOk result (λ found. IfNone found (path.now.bounds.upper ≡ None)) }
-    ensures fault { IfErr result (λ fault.
-        MatchOption path.now.bounds.upper ⊥
-        (λ upper. IsPathFault root.0 upper (S.seen space.old) (S.seen space.new) fault)) }
-    ensures within { MatchOption path.now.bounds.upper
-        (ReadsNothing (S.seen space.old) (S.seen space.new))
-        (λ upper. ReadsPath root.0 upper (S.seen space.old) (S.seen space.new)) }
-    ensures reads { OnlyRead (S.seen space.old) (S.seen space.new) }
-    ensures call { IsCall S.Space space.old space.new (space_fault result) }
-{
-    let Some(upper) = &path.bounds.upper else {
-        return Ok(None);
-    };
-    let next = path_to(alloc, space, root, upper)?;
-    Ok(next)
 }

@@ -13,7 +13,7 @@ ghost use Rattle.sea_tree.specs.Calls.{space_fault};
 use crate::TreeFault;
 use crate::leaf::Leaf;
 use crate::lookup::look_up;
-use crate::path::{path_after, path_to};
+use crate::cursor::Cursor;
 use crate::place::Bounds;
 use sea_base::{Data, Duplicate, Key, Laddr, NoMemory, Pairs, Space};
 use sea_node::Node;
@@ -70,16 +70,16 @@ pub fn range<S: Space>(
     }
     let least = Bounds::root(alloc)?;
     let first = after.unwrap_or(&least.lower);
-    let Some(mut path) = path_to(alloc, space, root, first)? else {
+    let Some(mut cursor) = Cursor::seek(alloc, space, root, first)? else {
         return Ok(found);
     };
-    take_above(&mut found, &path.leaf, after, limit)?;
+    take_above(&mut found, &cursor.leaf, after, limit)?;
     'leaves: while found.items().len() < limit as usize {
-        let Some(next) = path_after(alloc, space, root, &path)? else {
+        let Some(next) = cursor.next(alloc, space)? else {
             return Ok(found);
         };
         take_above(&mut found, &next.leaf, after, limit)?;
-        path = next;
+        cursor = next;
     }
     Ok(found)
 }
