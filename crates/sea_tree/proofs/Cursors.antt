@@ -141,6 +141,13 @@ turn_found seen root key turn lookup entries held spells tells =
       is = record { here = refl; stands = held.stands };
     }
 
+-- the last of the held nodes, and those before it
+pub last_turn : (seen : Seen) (root : ℕ) (turns before : List Turn) (turn : Turn) (upper : Option (List ℕ)) (key : List ℕ) → turns ≡ before ++ turn ∷ [] → upper ≡ Some key → AreTurns seen root (reverse turns) upper → IsTurn seen root key turn
+last_turn seen root turns before turn upper key is some held =
+    let last = subst (λ (ts : List Turn). AreTurns seen root ts upper) (ap reverse is ∙ reverse-append before (turn ∷ [])) held in
+    let first_is : last.0 ≡ key = (let same = sym last.1 ∙ some in cc) in
+    subst (λ (k : List ℕ). IsTurn seen root k turn) first_is last.2
+
 -- ---- the leaf is reached
 
 pub found_spelled : (seen : Seen) (root : ℕ) (key : List ℕ) (upper : Option (List ℕ)) (sight : Sight) → (found : IsFound seen root key upper sight) → Spells sight.block sight.lookup.level found.looks.entries
@@ -182,3 +189,13 @@ pub path_fault_then : (root : ℕ) (key : List ℕ) (old mid new : Seen) (fault 
 path_fault_then root key old mid new (Space fault) before blames = tt
 path_fault_then root key old mid new (Broken at) before blames = λ store agrees.
     subst (λ (s : Store). IsBreakOnPath s key root at.0) (one_store before store) (blames store agrees)
+
+-- ---- a cursor's own root and upper bound
+
+pub of_path : (P : ℕ → Option (List ℕ) → Type 0) (seen : Seen) (root : ℕ) (path : LeafPath) (cursor : Cursor) → StandsAt seen root path cursor → P cursor.root.0 cursor.upper → P root path.bounds.upper
+of_path P seen root path cursor stands holds = subst (λ (r : ℕ). P r path.bounds.upper) stands.root_is (subst (P cursor.root.0) stands.upper_is holds)
+
+pub of_cursor : (seen : Seen) (root : ℕ) (key : List ℕ) (path : LeafPath) (cursor : Cursor) → IsLeafPath seen root key path → StandsAt seen root path cursor → IsLeafPath seen cursor.root.0 key path × StandsAt seen cursor.root.0 path cursor
+of_cursor seen root key path cursor known stands =
+    let P : ℕ → Type 0 = λ r. IsLeafPath seen r key path × StandsAt seen r path cursor in
+    subst P (sym stands.root_is) (known, stands)

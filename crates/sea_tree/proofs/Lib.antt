@@ -32,6 +32,7 @@ pub mod OnPaths
 pub mod Performing
 pub mod Places
 pub mod Puts
+pub mod RangeSteps
 pub mod Ranges
 pub mod RootRebalances
 pub mod Rebalances

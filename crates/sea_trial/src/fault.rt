@@ -11,8 +11,8 @@ const NO_MEMORY: TrialFault = TrialFault::Tree(TreeFault::Space(SpaceFault::NoMe
 /// Why a trial was not done.
 #[derive(Clone, Copy, Debug, PartialEq, Eq, Error)]
 pub enum TrialFault {
-    /// The words are not two numbers.
-    #[error("usage: sea_trial PUTS GETS")]
+    /// The words are not three numbers.
+    #[error("usage: sea_trial PUTS GETS RANGES")]
     Usage,
     /// A call on the tree failed, or memory ran out.
     #[error("{0}")]

@@ -1,5 +1,5 @@
-//! A trial of logical trees: it puts pairs into a tree in memory, gets some of them, and counts what
-//! stands there.
+//! A trial of logical trees: it puts pairs into a tree in memory, gets some of them, takes ranges of
+//! them, and counts what stands there.
 #![tactic(auto)]
 
 mod fault;
@@ -10,7 +10,7 @@ mod trial;
 use fault::TrialFault;
 use std::env;
 use std::process::ExitCode;
-use trial::run_trial;
+use trial::{Calls, run_trial};
 
 #[cfg(test)]
 mod tests;
@@ -27,19 +27,26 @@ fn main(rt: HostRuntime) -> ExitCode {
 
 // Runs the trial that the words ask for, and prints what it counted.
 fn run(rt: &HostRuntime) -> Result<(), TrialFault> {
-    let (puts, gets) = counts(rt)?;
-    let report = run_trial(rt.alloc(), puts, gets)?;
+    let calls = counts(rt)?;
+    let report = run_trial(rt.alloc(), calls)?;
     println!(rt; "{report}")?;
     Ok(())
 }
 
-// The two numbers behind the program's name.
-fn counts(rt: &HostRuntime) -> Result<(u32, u32), TrialFault> {
+// The three numbers behind the program's name.
+fn counts(rt: &HostRuntime) -> Result<Calls, TrialFault> {
     let mut words = env::args(rt)?.skip(1);
-    let (Some(puts), Some(gets), None) = (words.next(), words.next(), words.next()) else {
+    let (Some(puts), Some(gets), Some(ranges)) = (words.next(), words.next(), words.next()) else {
         return Err(TrialFault::Usage);
     };
-    Ok((number(puts.as_str())?, number(gets.as_str())?))
+    if words.next().is_some() {
+        return Err(TrialFault::Usage);
+    }
+    Ok(Calls {
+        puts: number(puts.as_str())?,
+        gets: number(gets.as_str())?,
+        ranges: number(ranges.as_str())?,
+    })
 }
 
 fn number(word: &str) -> Result<u32, TrialFault> {
