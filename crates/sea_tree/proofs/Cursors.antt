@@ -22,7 +22,6 @@ use Rattle.sea_tree.specs.Lookup.{IsFound}
 use Rattle.sea_tree.specs.Path.{ComesDown, LeafPath, IsLeafPath}
 use Rattle.sea_tree.specs.Range.{IsTurn, AreTurns, StandsAt, IsAtLeaf, IsAtNext}
 use Rattle.sea_tree.specs.Reads.{IsOnPath, ReadsPath}
-use Rattle.sea_tree.proofs.Holding.{one_node}
 use Rattle.sea_tree.proofs.Lookups.{Turns, turns, one_below}
 use Rattle.sea_tree.proofs.Paths.{ComesDown-later}
 use Rattle.sea_tree.proofs.Splits.{All-middle_next}

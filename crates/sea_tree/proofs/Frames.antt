@@ -6,7 +6,7 @@ use Rattle.sea_node.specs.Entries.{Entry}
 use Rattle.sea_tree.specs.Tree.{NodeAt, Bounds, child_bounds, IsAddress}
 use Rattle.sea_tree.specs.Breaks.{HasNode}
 use Rattle.sea_tree.specs.Subtrees.{AllBelow, Holds, Below}
-use Rattle.sea_tree.proofs.Holding.{Picked, AllBelow-append, AllBelow-pick, Contains-head, Contains-later}
+use Rattle.sea_tree.proofs.Holding.{AllBelow-append, AllBelow-pick, Contains-head, Contains-later}
 
 -- what may stand at the child of an entry, with its pairs and nodes
 abbrev pub Children : Type 1

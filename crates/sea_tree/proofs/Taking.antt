@@ -1,6 +1,6 @@
 -- What a range has taken, leaf by leaf.
 use Rattle.std.proofs.Common.{◌≡◌, ℕ, ◌<◌, ◌≤◌, Bool, true, cond, List, [], ◌∷◌, ◌++◌, length, take, Option, Some, None, refl, sym, ap, subst, ◌∙◌, arith, length-take, length-append}
-use Rattle.std.specs.Option.{unwrap_or, option_copied, IfSome, IfNone}
+use Rattle.std.specs.Option.{unwrap_or, option_copied}
 use Rattle.std.specs.Borrow.{Bor}
 use Rattle.std.specs.List.{All}
 use Rattle.std.specs.Ordering.{is_lt}
@@ -10,13 +10,13 @@ use Rattle.std.specs.FinMap as map
 use Rattle.sea_base.specs.Space.{Store, Seen, IsKnown, IsSound, Agrees, OnlyRead, laid}
 use Rattle.sea_node.specs.Entries.{Entry, Values, IsNotAbove}
 use Rattle.sea_node.proofs.Keys.{IsNotAbove-trans, IsNotAbove-below, below_then_not_above, not_above_then_below, least_key}
-use Rattle.sea_tree.specs.Tree.{Bounds, root_bounds, IsWithin, LiesWithin}
+use Rattle.sea_tree.specs.Tree.{Bounds, IsWithin, LiesWithin}
 use Rattle.sea_tree.specs.Content.{HasContent}
 use Rattle.sea_tree.specs.Calls.{pairs_above}
 use Rattle.sea_tree.specs.Path.{LeafPath, IsLeafPath}
 use Rattle.sea_tree.specs.Range.{is_above, entries_above, pairs_upto, BeginsBelow, IsNextPath}
 use Rattle.sea_tree.proofs.Apart.{IsWithin-below}
-use Rattle.sea_tree.proofs.Paths.{ComesDown-later, first_node, leads_name, next_lower}
+use Rattle.sea_tree.proofs.Paths.{ComesDown-later, leads_name, next_lower}
 use Rattle.sea_tree.proofs.Leaves.{known_find, known_empty}
 use Rattle.sea_tree.proofs.Ranges.{upto_leaf, none_upto, no_pairs, above_is}
 

@@ -10,6 +10,7 @@ ghost use Rattle.sea_tree.specs.Place.{meant};
 ghost use Rattle.sea_tree.specs.Range.{AreTurns, IsAtLeaf, IsAtNext, StandsAt};
 ghost use Rattle.sea_tree.specs.Reads.{ReadsPath, ReadsNothing};
 ghost use Rattle.sea_tree.specs.Tree.{IsAddress};
+ghost use Rattle.sea_tree.specs.declared.place.TheConstants.{LEAST_BYTES};
 
 use crate::TreeFault;
 use crate::lookup::{Sight, child_of, look_at, look_at_root};
@@ -70,11 +71,7 @@ impl Cursor {
     }
 
     /// The cursor at the next leaf. There is none behind the last.
-    pub fn next<S: Space>(
-        self,
-        alloc: Global,
-        space: &mut S,
-    ) -> Result<Option<Cursor>, TreeFault>
+    pub fn next<S: Space>(self, alloc: Global, space: &mut S) -> Result<Option<Cursor>, TreeFault>
         requires ready { IsReady S.Space space.old }
         requires path { (key : List ℕ) × (path : LeafPath)
             × IsLeafPath (S.seen space.old) self.root.0 key path
@@ -160,7 +157,7 @@ fn turn_off(
     ensures address { IfOk result (λ child.
         IfSome sight.lookup.found (λ entry. IsAddress entry.1 child.0.0)) }
     ensures bounds { IfOk result (λ child. IfSome sight.lookup.found (λ entry. meant child.1
-        ≡ record { least = 1016; lower = entry.0; upper = option_or sight.lookup.next upper })) }
+        ≡ record { least = LEAST_BYTES; lower = entry.0; upper = option_or sight.lookup.next upper })) }
     ensures turns { OnOk result (MatchOption sight.lookup.next (turns.new.items ≡ turns.old.items)
         (λ next. turns.new.items ≡ turns.old.items
         ++ record { at = sight.at; block = sight.block; upper = upper } ∷ [])) }

@@ -11,9 +11,9 @@ ghost use Rattle.sea_base.specs.Ghosts.{IsReady, IsCall};
 ghost use Rattle.sea_tree.specs.Calls.{space_fault};
 
 use crate::TreeFault;
+use crate::cursor::Cursor;
 use crate::leaf::Leaf;
 use crate::lookup::look_up;
-use crate::cursor::Cursor;
 use crate::place::Bounds;
 use sea_base::{Data, Duplicate, Key, Laddr, NoMemory, Pairs, Space};
 use sea_node::Node;

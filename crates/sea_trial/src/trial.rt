@@ -43,7 +43,10 @@ impl fmt::Display for Report {
             level,
         } = *self;
         let Calls { puts, gets, ranges } = calls;
-        write!(f, "puts {puts} gets {gets} found {found} ranges {ranges} taken {taken}")?;
+        write!(
+            f,
+            "puts {puts} gets {gets} found {found} ranges {ranges} taken {taken}"
+        )?;
         write!(f, " pairs {pairs} nodes {nodes} level {level}")
     }
 }

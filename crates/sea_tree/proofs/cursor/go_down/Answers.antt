@@ -38,12 +38,12 @@ down-preserved-in_ok-sight g c =
     let told = c.in_ok-sight.ensures.node in
     record {
       found = found_further (g.S.Space.seen c.down.space) (g.S.Space.seen c.look_at.new.space) c.args.root.0 c.args.key.now c.down.upper c.down.sight.lookup c.down-test.true c.down.invariant.found.looks c.in_ok-at.at.0 (meant c.in_ok-at.bounds)
-    c.in_ok-at.ensures.address c.in_ok-at.ensures.bounds c.look_at.ensures.reads c.in_ok-sight.sight told.0 c.in_ok-sight.ensures.level told.1 told.2 c.in_ok-sight.ensures.known c.in_ok-sight.ensures.here;
+          c.in_ok-at.ensures.address c.in_ok-at.ensures.bounds c.look_at.ensures.reads c.in_ok-sight.sight told.0 c.in_ok-sight.ensures.level told.1 told.2 c.in_ok-sight.ensures.known c.in_ok-sight.ensures.here;
       turns = AreTurns-later c.look_at.ensures.reads c.args.root.0 (reverse c.turn_off.new.turns.items) c.in_ok-at.bounds.upper
           (turned_on (g.S.Space.seen c.down.space) c.args.root.0 c.args.key.now c.down.upper c.down.sight c.down-test.true before.found c.down.turns.items c.turn_off.new.turns.items (meant c.in_ok-at.bounds) c.in_ok-at.ensures.bounds c.in_ok-at.ensures.turns before.turns);
       within = reads_further c.args.root.0 c.args.key.now c.in_ok-at.at.0 (g.S.Space.seen c.args.space.now) (g.S.Space.seen c.down.space) (g.S.Space.seen c.look_at.new.space) c.down.invariant.within c.look_at.ensures.one
-    (looks_on_path (g.S.Space.seen c.down.space) (g.S.Space.seen c.look_at.new.space) c.args.root.0 c.args.key.now c.down.upper c.down.sight.lookup c.down-test.true c.down.invariant.found.looks c.in_ok-at.at.0 (meant c.in_ok-at.bounds)
-    c.in_ok-at.ensures.address c.in_ok-at.ensures.bounds c.look_at.ensures.reads (g.S.Space.seen c.args.space.now) (only_read-trans c.down.invariant.reads c.look_at.ensures.reads) (g.met.S.Space.sound c.look_at.new.space));
+          (looks_on_path (g.S.Space.seen c.down.space) (g.S.Space.seen c.look_at.new.space) c.args.root.0 c.args.key.now c.down.upper c.down.sight.lookup c.down-test.true c.down.invariant.found.looks c.in_ok-at.at.0 (meant c.in_ok-at.bounds)
+          c.in_ok-at.ensures.address c.in_ok-at.ensures.bounds c.look_at.ensures.reads (g.S.Space.seen c.args.space.now) (only_read-trans c.down.invariant.reads c.look_at.ensures.reads) (g.met.S.Space.sound c.look_at.new.space));
       reads = (only_read-trans c.down.invariant.reads c.look_at.ensures.reads);
       call = call_then g.S.Space g.met.S.Space.frame before.call c.in_ok-sight.ensures.call;
     }
@@ -54,12 +54,12 @@ down-preserved g c =
     let told = c.in_ok-sight.ensures.node in
     record {
       found = found_further (g.S.Space.seen c.down.space) (g.S.Space.seen c.look_at.new.space) c.args.root.0 c.args.key.now c.down.upper c.down.sight.lookup c.down-test.true c.down.invariant.found.looks c.in_ok-at.at.0 (meant c.in_ok-at.bounds)
-    c.in_ok-at.ensures.address c.in_ok-at.ensures.bounds c.look_at.ensures.reads c.in_ok-sight.sight told.0 c.in_ok-sight.ensures.level told.1 told.2 c.in_ok-sight.ensures.known c.in_ok-sight.ensures.here;
+          c.in_ok-at.ensures.address c.in_ok-at.ensures.bounds c.look_at.ensures.reads c.in_ok-sight.sight told.0 c.in_ok-sight.ensures.level told.1 told.2 c.in_ok-sight.ensures.known c.in_ok-sight.ensures.here;
       turns = AreTurns-later c.look_at.ensures.reads c.args.root.0 (reverse c.turn_off.new.turns.items) c.in_ok-at.bounds.upper
           (turned_on (g.S.Space.seen c.down.space) c.args.root.0 c.args.key.now c.down.upper c.down.sight c.down-test.true before.found c.down.turns.items c.turn_off.new.turns.items (meant c.in_ok-at.bounds) c.in_ok-at.ensures.bounds c.in_ok-at.ensures.turns before.turns);
       within = reads_further c.args.root.0 c.args.key.now c.in_ok-at.at.0 (g.S.Space.seen c.args.space.now) (g.S.Space.seen c.down.space) (g.S.Space.seen c.look_at.new.space) c.down.invariant.within c.look_at.ensures.one
-    (looks_on_path (g.S.Space.seen c.down.space) (g.S.Space.seen c.look_at.new.space) c.args.root.0 c.args.key.now c.down.upper c.down.sight.lookup c.down-test.true c.down.invariant.found.looks c.in_ok-at.at.0 (meant c.in_ok-at.bounds)
-    c.in_ok-at.ensures.address c.in_ok-at.ensures.bounds c.look_at.ensures.reads (g.S.Space.seen c.args.space.now) (only_read-trans c.down.invariant.reads c.look_at.ensures.reads) (g.met.S.Space.sound c.look_at.new.space));
+          (looks_on_path (g.S.Space.seen c.down.space) (g.S.Space.seen c.look_at.new.space) c.args.root.0 c.args.key.now c.down.upper c.down.sight.lookup c.down-test.true c.down.invariant.found.looks c.in_ok-at.at.0 (meant c.in_ok-at.bounds)
+          c.in_ok-at.ensures.address c.in_ok-at.ensures.bounds c.look_at.ensures.reads (g.S.Space.seen c.args.space.now) (only_read-trans c.down.invariant.reads c.look_at.ensures.reads) (g.met.S.Space.sound c.look_at.new.space));
       reads = (only_read-trans c.down.invariant.reads c.look_at.ensures.reads);
       call = call_then g.S.Space g.met.S.Space.frame before.call c.in_ok-sight.ensures.call;
     }
