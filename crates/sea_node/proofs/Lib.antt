@@ -2,6 +2,7 @@ pub mod BlockEdits
 pub mod Edits
 pub mod EntryBytes
 pub mod Keys
+pub mod Leaps
 pub mod Lookups
 pub mod Nodes
 pub mod Places

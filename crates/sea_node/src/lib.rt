@@ -3,6 +3,7 @@
 
 mod edit;
 mod entry;
+mod leap;
 mod lookup;
 mod node;
 mod order;

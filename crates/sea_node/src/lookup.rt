@@ -3,9 +3,10 @@ ghost use Rattle.std.specs.Prelude.{◌≡◌, ℕ, ◌≤◌, ◌↔◌, List, 
 ghost use Rattle.sea_node.specs.Entries.{Entry, IsRising};
 ghost use Rattle.sea_node.specs.Node.{Spells};
 ghost use Rattle.sea_node.specs.Reading.{BeginsAtLevel, IsSpan, key_in, entry_in};
-ghost use Rattle.sea_node.specs.Lookup.{Tells, Passes, HasSpans, IsSpanIf, IsBegun, IsRead, HasEntry, HasNoEntry, GoesOn, GoesOnNoMore, IsEnough, keyed, entered};
+ghost use Rattle.sea_node.specs.Lookup.{Tells, Passes, HasSpans, IsSpanIf, HasValueOf, IsBegun, IsRead, HasEntry, HasNoEntry, GoesOn, GoesOnNoMore, IsEnough, keyed, entered};
 
 use crate::Node;
+use crate::leap::{first_word, leap};
 use crate::node::FRONT_BYTES;
 use crate::order::comes_before;
 use crate::reading::{ADDRESS_BYTES, Span, read_level, share_entry, share_key, span_at};
@@ -108,6 +109,7 @@ impl Passed {
             × IsBegun bytes.now level result.last.end entries
             × Passes bytes.now key.now entries result }
         ensures spans { HasSpans bytes.now result }
+        ensures value { HasValueOf level (entry_in bytes.now result.last) }
         ensures ends { IfNone result.next (GoesOnNoMore bytes.now level result.last) }
     {
         if comes_before(key, &bytes[first.key_at..first.value_at]) {
@@ -118,7 +120,8 @@ impl Passed {
                 next: Some(first),
             };
         }
-        let mut last = first;
+        let below = first_word(key);
+        let mut last = leap(bytes, first, below);
         'seek: while let Some(entry) = entry_behind(bytes, level, last) {
             if comes_before(key, &bytes[entry.key_at..entry.value_at]) {
                 return Passed {
@@ -128,7 +131,7 @@ impl Passed {
                     next: Some(entry),
                 };
             }
-            last = entry;
+            last = leap(bytes, entry, below);
         }
         Passed {
             first,
@@ -143,6 +146,7 @@ impl Passed {
     fn to_end(self, bytes: &[u8], level: u32) -> Passed
         requires block { length bytes.now ≡ BLOCK_BYTES }
         requires spans { HasSpans bytes.now self }
+        requires value { HasValueOf level (entry_in bytes.now self.last) }
         requires ends { IfNone self.next (GoesOnNoMore bytes.now level self.last) }
         ensures passed { (key : List ℕ) (entries : List Entry)
             → IsBegun bytes.now level self.last.end entries → Passes bytes.now key entries self
@@ -154,9 +158,9 @@ impl Passed {
         if self.next.is_none() {
             return self;
         }
-        let mut last = self.last;
+        let mut last = leap(bytes, self.last, u64::MAX);
         'rest: while let Some(entry) = entry_behind(bytes, level, last) {
-            last = entry;
+            last = leap(bytes, entry, u64::MAX);
         }
         Passed { last, ..self }
     }

@@ -4,7 +4,8 @@ ghost use Rattle.sea_node.specs.Entries.{IsBelow};
 
 use sea_base::u64_at;
 
-const WORD_BYTES: usize = 8;
+/// How many bytes of two keys are compared at once.
+pub(crate) const WORD_BYTES: usize = 8;
 
 /// Whether a key comes before another: by their bytes as unsigned numbers, and a proper prefix
 /// first.

@@ -5,6 +5,7 @@ use Rattle.sea_node.specs.Reading.{entry_in}
 use Rattle.sea_node.proofs.Keys.{IsNotAbove-not_below}
 use Rattle.sea_node.proofs.Lookups.{entry_ends, ends_more, finds_found, finds_next}
 use Rattle.sea_node.proofs.ReadLookups.{first_begun, first_passes, begun_more, passes_more}
+use Rattle.sea_node.proofs.Leaps.{Seeks, seeks_on, seeks_far}
 use Rattle.sea_node.proofs.lookup.Passed.seek.Goals as goal
 
 pub returns-then-comes_before-clause-passed : goal.returns-then-comes_before-clause-passed
@@ -37,11 +38,13 @@ seek-init c =
     let has = c.requires.first in
     let e = entry_in bytes first in
     let le = IsNotAbove-not_below e.0 c.args.key.now (λ below. false≢true (c.if-comes_before.ensures.1 below)) in
-    record {
+    let begun : Seeks bytes c.args.level c.args.key.now first first = record {
+      value = has.1;
       passed = (e ∷ [], first_begun bytes len c.args.level first has, first_passes bytes len c.args.level c.args.key.now first (Some first) None has (finds_found bytes c.args.key.now [] first le (ends_more bytes [] e 32 first.end len (omega arith) refl has.0.1)));
       front = omega (arith, entry_ends bytes e 32 first.end len (omega arith) has.0.1);
-      last = has.0.0;
-    }
+      span = has.0.0;
+    } in
+    seeks_far bytes len c.args.level c.first_word-below.result c.args.key.now first first c.leap-last.result c.first_word-below.ensures begun (c.leap-last.ensures.leaps c.args.level has.1)
 
 pub returns-then-comes_before-2-clause-passed : goal.returns-then-comes_before-2-clause-passed
 returns-then-comes_before-2-clause-passed c =
@@ -51,7 +54,7 @@ returns-then-comes_before-2-clause-passed c =
     let entry = c.in-Some.entry in
     let was = c.seek.invariant.passed in
     let so_far : Passed = record { first = c.args.first; last = last; found = Some last; next = None } in
-    let within = c.seek.invariant.last.within in
+    let within = c.seek.invariant.span.within in
     let on = c.in-Some.ensures in
     let e = entry_in bytes entry in
     let below = c.if-comes_before-2.ensures.0 refl in (
@@ -66,10 +69,10 @@ returns-then-comes_before-2-clause-spans c =
     let entry = c.in-Some.entry in
     let on = c.in-Some.ensures in
     record {
-      front = omega (arith, entry_ends bytes (entry_in bytes entry) c.seek.last.end entry.end c.requires.block c.seek.invariant.last.within on.0.0.1, c.seek.invariant.front);
+      front = omega (arith, entry_ends bytes (entry_in bytes entry) c.seek.last.end entry.end c.requires.block c.seek.invariant.span.within on.0.0.1, c.seek.invariant.front);
       first_is = c.requires.first.0.0;
       last_is = on.0.0.0;
-      found_is = c.seek.invariant.last;
+      found_is = c.seek.invariant.span;
       next_is = on.0.0.0;
     }
 
@@ -78,27 +81,16 @@ seek-smaller c =
     let bytes = c.args.bytes.now in
     let entry = c.in-Some.entry in
     let on = c.in-Some.ensures in
-    let ends = entry_ends bytes (entry_in bytes entry) c.seek.last.end entry.end c.requires.block c.seek.invariant.last.within on.0.0.1 in
-    let within = on.0.0.0.within in omega arith
+    let ends = entry_ends bytes (entry_in bytes entry) c.seek.last.end entry.end c.requires.block c.seek.invariant.span.within on.0.0.1 in
+    let further = c.leap-last-in-Some.ensures.further in
+    let within = c.leap-last-in-Some.ensures.span.within in omega arith
 
 pub seek-preserved : goal.seek-preserved
 seek-preserved c =
     let bytes = c.args.bytes.now in
     let len = c.requires.block in
-    let last = c.seek.last in
     let entry = c.in-Some.entry in
-    let was = c.seek.invariant.passed in
-    let so_far : Passed = record { first = c.args.first; last = last; found = Some last; next = None } in
-    let within = c.seek.invariant.last.within in
     let on = c.in-Some.ensures in
-    let e = entry_in bytes entry in
-    let le = IsNotAbove-not_below e.0 c.args.key.now (λ below. false≢true (c.if-comes_before-2.ensures.1 below)) in
-    record {
-      passed = (
-        was.0 ++ e ∷ [],
-        begun_more bytes len c.args.level was.0 c.args.key.now so_far was.1 was.2 within entry on,
-        passes_more bytes len c.args.level was.0 c.args.key.now so_far was.1 was.2 within entry on (Some entry) None (finds_found bytes c.args.key.now was.0 entry le (ends_more bytes was.0 e last.end entry.end len within was.2.end_is on.0.0.1)),
-      );
-      front = omega (arith, entry_ends bytes e last.end entry.end len within on.0.0.1, c.seek.invariant.front);
-      last = on.0.0.0;
-    }
+    let le = IsNotAbove-not_below (entry_in bytes entry).0 c.args.key.now (λ below. false≢true (c.if-comes_before-2.ensures.1 below)) in
+    seeks_far bytes len c.args.level c.first_word-below.result c.args.key.now c.args.first entry c.leap-last-in-Some.result c.first_word-below.ensures
+    (seeks_on bytes len c.args.level c.args.key.now c.args.first c.seek.last entry c.seek.invariant on le) (c.leap-last-in-Some.ensures.leaps c.args.level on.0.1)
