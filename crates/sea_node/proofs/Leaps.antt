@@ -10,8 +10,8 @@ use Rattle.sea_node.specs.declared.lookup.Passed.{Passed}
 use Rattle.sea_node.specs.declared.reading.Span.{Span}
 use Rattle.sea_node.specs.Entries.{Entry, IsBelow, IsNotAbove}
 use Rattle.sea_node.specs.Reading.{IsEntry, IsSpan, StandsAt, SpansAt, key_in, entry_in}
-use Rattle.sea_node.specs.Lookup.{Passes, HasValueOf, IsBegun, GoesOn, moved_to, HasWordBelow, Leaps}
-use Rattle.sea_node.specs.Lookup.{Stays, Goes}
+use Rattle.sea_node.specs.Lookup.{Passes, HasValueOf, IsBegun, GoesOn}
+use Rattle.sea_node.specs.Leap.{moved_to, HasWordBelow, Leaps, Stays, Goes}
 use Rattle.sea_node.proofs.Keys.{IsNotAbove-below}
 use Rattle.sea_node.proofs.ReadNodes.{entry_read}
 use Rattle.sea_node.proofs.Lookups.{entry_ends, ends_more, finds_found, finds_still}

@@ -1,6 +1,5 @@
 -- What a look-up of a key in a node tells.
-use Rattle.std.specs.Prelude.{◌≡◌, ℕ, ◌+◌, ◌-◌, ◌<◌, ◌≤◌, List, [], ◌∷◌, ◌++◌, length, take, drop, Option, Some, None}
-use Rattle.sea_base.specs.Field.{big_endian}
+use Rattle.std.specs.Prelude.{◌≡◌, ℕ, ◌+◌, ◌≤◌, List, [], ◌∷◌, ◌++◌, length, drop, Option, Some, None}
 use Rattle.std.specs.List.{AllByRecursion}
 use Rattle.sea_node.specs.declared.lookup.Lookup.{Lookup}
 use Rattle.sea_node.specs.declared.lookup.Passed.{Passed}
@@ -115,26 +114,6 @@ abbrev pub GoesOnNoMore : List ℕ → ℕ → Span → Type 0
 GoesOnNoMore bytes level last =
     (entry : Entry) (rest : List ℕ) → BeginsWithEntry (drop last.end bytes) entry rest
     → HasValueOf level entry → IsBelow (key_in bytes last) entry.0 → ⊥
-
--- the span of an entry with the same lengths that ends elsewhere
-abbrev pub moved_to : Span → ℕ → Span
-moved_to span end = record {
-  key_at = end - (span.end - span.key_at);
-  value_at = end - (span.end - span.value_at);
-  end = end;
-}
-
--- the number that the first 8 bytes of a key spell is below another
-abbrev pub HasWordBelow : List ℕ → ℕ → Type 0
-HasWordBelow key n = (word : ℕ) × (word < n) × (take 8 key ≡ big_endian 8 word)
-
--- Entries go on one behind the other, from one to another, and the first words of their keys are
--- below a number.
-pub data Leaps (bytes : List ℕ) (level below : ℕ) (first : Span) : Span → Type 0 where
-  Stays : Leaps bytes level below first first
-  Goes : (last next : Span) → Leaps bytes level below first last
-      → GoesOn bytes level last next → HasWordBelow (key_in bytes next) below
-      → Leaps bytes level below first next
 
 -- there are entries enough for a node of a level
 abbrev pub IsEnough : ℕ → List Entry → Type 0

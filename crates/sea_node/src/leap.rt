@@ -2,7 +2,8 @@
 ghost use Rattle.std.specs.Prelude.{◌≡◌, ℕ, ◌+◌, ◌-◌, ◌<◌, ◌≤◌, List, IsTrue, length};
 ghost use Rattle.sea_node.specs.Entries.{IsBelow};
 ghost use Rattle.sea_node.specs.Reading.{IsSpan, SpansAt, entry_in};
-ghost use Rattle.sea_node.specs.Lookup.{HasValueOf, HasWordBelow, Leaps, moved_to};
+ghost use Rattle.sea_node.specs.Leap.{HasWordBelow, Leaps, moved_to};
+ghost use Rattle.sea_node.specs.Lookup.{HasValueOf};
 
 use crate::order::WORD_BYTES;
 use crate::reading::{LENGTHS_BYTES, Span};

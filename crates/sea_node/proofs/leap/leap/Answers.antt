@@ -3,7 +3,7 @@ use Rattle.std.specs.Prelude.{slice_range}
 use Rattle.sea_base.specs.Field.{big_endian}
 use Rattle.sea_node.specs.declared.reading.Span.{Span}
 use Rattle.sea_node.specs.Reading.{IsSpan, key_in}
-use Rattle.sea_node.specs.Lookup.{Leaps, Stays, Goes, moved_to}
+use Rattle.sea_node.specs.Leap.{Leaps, Stays, Goes, moved_to}
 use Rattle.sea_node.proofs.Leaps.{moved_self, word_in, like_goes}
 use Rattle.sea_node.proofs.leap.leap.Goals as goal
 

@@ -1,7 +1,8 @@
 use Rattle.std.proofs.Common.{◌≡◌, ◌-◌, ◌≤◌, ℕ, take}
 use Rattle.sea_base.specs.Field.{big_endian}
 use Rattle.sea_node.specs.Reading.{IsSpan, key_in, entry_in}
-use Rattle.sea_node.specs.Lookup.{HasValueOf, Leaps, moved_to}
+use Rattle.sea_node.specs.Lookup.{HasValueOf}
+use Rattle.sea_node.specs.Leap.{Leaps, moved_to}
 use Rattle.sea_node.proofs.leap.leap.Given as goal
 
 abbrev pub invariant-leap : goal.invariant-leap
