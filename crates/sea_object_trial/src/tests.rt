@@ -1,0 +1,12 @@
+mod agreement;
+mod copies;
+mod dice;
+mod edges;
+mod histories;
+mod plain;
+mod random;
+mod reasons;
+mod rows;
+mod sizes;
+mod spelled;
+mod texts;
