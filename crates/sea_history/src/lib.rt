@@ -6,6 +6,3 @@ mod plan;
 
 pub use history::{Entry, HISTORY_ENTRIES, History, SENT_BACK};
 pub use plan::{CLIENT_REQUESTS, CLIENTS, Plan};
-
-#[cfg(test)]
-mod tests;

@@ -1,5 +1,5 @@
 //! The lines that a history prints.
-ghost use Rattle.std.specs.Prelude.{◌≡◌, ◌++◌, ◌∷◌, OnOk, string_bytes};
+ghost use Rattle.std.specs.Prelude.{◌≡◌, ◌++◌, ◌∷◌, IfOk, OnErr, OnOk, string_bytes};
 ghost use Rattle.std.specs.List.{flat_map};
 ghost use Rattle.sea_script.specs.Word.{byte_text, data_text, name_text};
 ghost use Rattle.sea_script.specs.Render.{TellsApart, end_line, entry_line, item_text, items_text, names_text, pair_text_of, pairs_text, reply_text, why_text};
@@ -11,27 +11,48 @@ use sea_object::{Item, Reply, Why};
 use std::alloc::Global;
 use std::fmt::Write;
 
-/// Appends the line of an entry.
-#[tactic(auto, unfolding(crate::specs::Render::entry_line))]
+/// Appends the line of an entry. After want of memory the text is as it was.
 pub fn push_entry(text: &mut String, entry: &Entry) -> Result<(), NoMemory>
-    ensures { OnOk result (string_bytes text.new ≡ string_bytes text.old ++ entry_line entry.now) }
+    ensures ok { OnOk result
+        (string_bytes text.new ≡ string_bytes text.old ++ entry_line entry.now) }
+    ensures err { OnErr result (string_bytes text.new ≡ string_bytes text.old) }
 {
-    write!(text, "{} {} ", entry.client, entry.number)?;
-    push_reply(text, &entry.reply)?;
-    text.push('\n')?;
+    let line = line_of(*text.allocator(), entry)?;
+    text.push_str(&line)?;
     Ok(())
 }
 
 /// Appends the closing line: how many lines stand before it, and how often a client was sent back.
-/// Behind it, a text is that of one history alone.
-#[tactic(auto, unfolding(crate::specs::Render::end_line))]
+/// Behind it, a text is that of one history alone. After want of memory the text is as it was.
 pub fn push_end(text: &mut String, entries: u32, sent_back: u64) -> Result<(), NoMemory>
     ensures line { OnOk result
         (string_bytes text.new ≡ string_bytes text.old ++ end_line entries sent_back) }
+    ensures err { OnErr result (string_bytes text.new ≡ string_bytes text.old) }
     ensures apart { TellsApart }
 {
-    write!(text, "end {entries} {sent_back}\n")?;
+    let line = closing_line(*text.allocator(), entries, sent_back)?;
+    text.push_str(&line)?;
     Ok(())
+}
+
+#[tactic(auto, unfolding(crate::specs::Render::entry_line))]
+fn line_of(alloc: Global, entry: &Entry) -> Result<String, NoMemory>
+    ensures { IfOk result (λ line. string_bytes line ≡ entry_line entry.now) }
+{
+    let mut line = String::new(alloc);
+    write!(line, "{} {} ", entry.client, entry.number)?;
+    push_reply(&mut line, &entry.reply)?;
+    line.push('\n')?;
+    Ok(line)
+}
+
+#[tactic(auto, unfolding(crate::specs::Render::end_line))]
+fn closing_line(alloc: Global, entries: u32, sent_back: u64) -> Result<String, NoMemory>
+    ensures { IfOk result (λ line. string_bytes line ≡ end_line entries sent_back) }
+{
+    let mut line = String::new(alloc);
+    write!(line, "end {entries} {sent_back}\n")?;
+    Ok(line)
 }
 
 #[tactic(auto, unfolding(crate::specs::Render::reply_text))]
@@ -156,6 +177,3 @@ fn push_data(text: &mut String, bytes: &[u8]) -> Result<(), NoMemory>
     text.push_str(&digits)?;
     Ok(())
 }
-
-#[cfg(test)]
-mod tests;

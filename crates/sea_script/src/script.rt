@@ -134,6 +134,3 @@ fn at_line(fault: LineFault, line: u32) -> ScriptFault
         LineFault::Why(why) => ScriptFault::Refused { line, why },
     }
 }
-
-#[cfg(test)]
-mod tests;
