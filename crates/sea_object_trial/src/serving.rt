@@ -1,6 +1,6 @@
 //! Requests served on a map of objects.
-ghost use Rattle.std.specs.Prelude.{◌≡◌, ◌≤◌, length};
-ghost use Rattle.sea_history.specs.Plan.{IsClientOf, requests_of};
+ghost use Rattle.std.specs.Prelude.{◌≡◌};
+ghost use Rattle.sea_history.specs.Plan.{IsClientOf};
 ghost use Rattle.sea_history.specs.Record.{HasClient};
 
 use crate::fault::TrialFault;
@@ -15,15 +15,30 @@ pub fn serve(alloc: Global, objects: &mut Objects, plan: &Plan) -> Result<Histor
     let clients = plan.clients();
     let mut history = History::new(alloc, clients)?;
     for client in 1..=clients {
-        for number in 1..=plan.count(client) {
-            add(&mut history, objects, client, plan.request(client, number))?;
-        }
+        serve_client(&mut history, objects, plan, client)?;
     }
     Ok(history)
 }
 
+// Serves a client's requests.
+fn serve_client(
+    history: &mut History,
+    objects: &mut Objects,
+    plan: &Plan,
+    client: u32,
+) -> Result<(), TrialFault>
+    requires held { HasClient history.old client }
+    requires planned { IsClientOf client plan.now }
+    ensures { history.new.clients ≡ history.old.clients }
+{
+    for number in 1..=plan.count(client) {
+        serve_next(history, objects, client, plan.request(client, number))?;
+    }
+    Ok(())
+}
+
 // Serves a client's next request.
-fn add(
+fn serve_next(
     history: &mut History,
     objects: &mut Objects,
     client: u32,
@@ -47,7 +62,7 @@ pub fn text_of(alloc: Global, history: &History) -> Result<String, NoMemory> {
     for entry in history.entries() {
         push_entry(&mut text, entry)?;
     }
-    let lines = history.entries().len() as u32;
+    let lines = u32::try_from(history.entries().len()).unwrap_or(u32::MAX);
     push_end(&mut text, lines, history.sent_back())?;
     Ok(text)
 }

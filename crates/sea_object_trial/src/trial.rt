@@ -74,9 +74,8 @@ fn parsed(alloc: Global, input: &[u8]) -> Result<usize, TrialFault> {
 // Applies the last request of the last client, if it has one.
 fn applied(objects: &mut Objects, plan: &Plan) -> Result<usize, NoMemory> {
     let client = plan.clients();
-    let number = plan.count(client);
-    if number > 0 {
-        objects.apply(plan.request(client, number))?;
+    if client > 0 && plan.count(client) > 0 {
+        objects.apply(plan.request(client, plan.count(client)))?;
     }
     Ok(0)
 }
