@@ -28,10 +28,6 @@ change_at f xs ys i item same within is = (
 pub all_changes : {X : Type 0} (f : X → Change) (xs ys : List X) (i : ℕ) → ys ≡ xs → length ys ≤ i → take i (map f xs) ≡ map f xs
 all_changes f xs ys i same past = take_all i (map f xs) (omega (arith, length-map xs f, ap length same))
 
--- none so far
-pub counts_none : (root : ℕ) (changes : List Change) (test : Option (List ℕ) → Bool) (old : Seen) → Counts root (take 0 changes) test 0 old old
-counts_none root changes test old = record { found = []; changed = (refl, refl); counted = refl }
-
 -- one more
 pub counts_more : (root : ℕ) (changes : List Change) (i : ℕ) (change : Change) (test : Option (List ℕ) → Bool) (count next : ℕ) (here : Option (List ℕ)) (a b c : Seen) → i < length changes → get_or changes i change ≡ change → Counts root (take i changes) test count a b → ChangesKey root change here b c → next ≡ count + cond (test here) 1 0 → Counts root (take (i + 1) changes) test next a c
 counts_more root changes i change test count next here a b c within is done step counted =

@@ -250,8 +250,7 @@ in_range at from to low high = (
 -- the tree's own changes fill few addresses more
 fills : (store : Store) (root : ℕ) (old mid : Seen) (first after : Values) → HasContent (laid old store) root first → Becomes store root old mid after → old.next ≤ mid.next → (count more : ℕ) → mid.next - old.next + 1 ≤ more → FillsFewer (laid old store) count → FillsFewer (laid mid store) (count + more)
 fills store root old mid first after has became rises count more few (filled, short, all) =
-    let given : List ℕ = range_with_len old.next (mid.next - old.next) in
-    (
+    let given : List ℕ = range_with_len old.next (mid.next - old.next) in (
       root ∷ (given ++ filled),
       omega (arith, length-append given filled, length-range_with_len old.next (mid.next - old.next)),
       λ at there. elim (filled_or_not (laid old store at)) [
@@ -286,8 +285,8 @@ never_full root done found key old mid new (Broken at) short keys failure store 
     let made = keys_make store root done found content old mid keys now in
     let after = content_after done content in
     let fresh : (q : ℕ) → mid.next ≤ q → q < new.next → laid mid store q ≡ None = λ q from below.
-        let none = meets.tree.fresh q (omega arith) below in
-        made.becomes.elsewhere q (λ same. elim meets.rooted [ inl under ↦ omega arith | inr over ↦ omega arith ])
-        (λ node. IsNodeOf-filled (laid old store) root q meets.tree.content.tree node none) (inr from) ∙ none in
+    let none = meets.tree.fresh q (omega arith) below in
+    made.becomes.elsewhere q (λ same. elim meets.rooted [ inl under ↦ omega arith | inr over ↦ omega arith ])
+    (λ node. IsNodeOf-filled (laid old store) root q meets.tree.content.tree node none) (inr from) ∙ none in
     failure.never_full store after (record { agrees = meets.tree.agrees; content = made.becomes.content; fresh = fresh })
     (fills store root old mid content after meets.tree.content made.becomes low (2 ^ 25 - 2 ^ 20) (2 ^ 20) (omega (arith, given.few)) few)

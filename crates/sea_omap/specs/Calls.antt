@@ -30,9 +30,9 @@ pub record Meets (store : Store) (root : ℕ) (old new : Seen) (before : Values)
   pub rooted : (root < old.next) ⊎ (new.next ≤ root)
 
 -- With the changes of the call laid over it, the tree is well formed with the new content; nothing
--- else changed but its own addresses, and its nodes are among these; of these, those that are filled
--- are its nodes, so nothing is left over. Another tree that shares no node with this one, and whose
--- root wasn't given, keeps its content.
+-- else changed but its own addresses, and its nodes are among these; of these, those that are
+-- filled are its nodes, so nothing is left over. Another tree that shares no node with this one,
+-- and whose root wasn't given, keeps its content.
 pub record Becomes (store : Store) (root : ℕ) (old new : Seen) (after : Values) : Type 0 where
   pub content : HasContent (laid new store) root after
   pub elsewhere : (at : ℕ) → at ≢ root → (IsNodeOf (laid old store) root at → ⊥)

@@ -6,7 +6,7 @@ ghost use Rattle.sea_base.specs.MapSpace.{seen_of};
 use crate::{set, unset};
 use sea_base::{Data, Key, Laddr, MapSpace, Names, NoMemory, Nths, Pairs, SpaceFault};
 use sea_node::VALUE_BYTES;
-use sea_tree::{Checked, TreeFault, check, get};
+use sea_tree::{Checked, TreeFault, check};
 use std::alloc::Global;
 use std::process::Abort;
 use std::test::Fail;
@@ -98,18 +98,6 @@ fn a_key_that_comes_twice_is_counted_once(rt: HostRuntime) -> Result<(), Fail> {
 }
 
 #[test]
-fn the_last_value_of_a_key_stays(rt: HostRuntime) -> Result<(), Fail> {
-    let alloc = rt.alloc();
-    let mut omap = Omap::new(alloc, &[])?;
-    let mut pairs = pairs_of(alloc, &[1], b"first")?;
-    pairs.push((key_of(alloc, 1)?, Data::new(alloc, b"last")?))?;
-    assert_eq!(rt; omap.set(&pairs)?, 1);
-    let found = get(&mut omap.space, ROOT, &key_of(alloc, 1)?)?;
-    assert_eq!(rt; found, Some(Data::new(alloc, b"last")?));
-    Ok(())
-}
-
-#[test]
 fn keys_go_and_two_leaves_join(rt: HostRuntime) -> Result<(), Fail> {
     let alloc = rt.alloc();
     let mut omap = Omap::new(alloc, &[])?;
@@ -130,5 +118,18 @@ fn a_failed_get_ends_the_call(rt: HostRuntime) -> Result<(), Fail> {
         assert_eq!(rt; omap.set(&pairs), FAILED);
         assert_eq!(rt; omap.checked()?.pairs, left);
     }
+    Ok(())
+}
+
+#[test]
+fn ten_thousand_keys(rt: HostRuntime) -> Result<(), Fail> {
+    let alloc = rt.alloc();
+    let mut omap = Omap::new(alloc, &[])?;
+    let numbers: Vec<u32> = (0..10_000).collect(alloc)?;
+    for some in numbers.chunks(1_000) {
+        assert_eq!(rt; omap.set(&pairs_of(alloc, some, b"v")?)?, 1_000);
+    }
+    assert_eq!(rt; omap.set(&pairs_of(alloc, &[9_999, 10_000], b"w")?)?, 1);
+    assert_eq!(rt; omap.checked()?.pairs, 10_001);
     Ok(())
 }
