@@ -1,10 +1,10 @@
 -- Keys changed one after the other: what each change of a key leaves, added up.
-use Rattle.std.proofs.Common.{◌≡◌, ◌⊎◌, inl, inr, ℕ, ◌+◌, ◌*◌, ◌<◌, ◌≤◌, List, [], ◌∷◌, ◌++◌, length, Option, Some, None, refl, sym, ap, subst, arith}
+use Rattle.std.proofs.Common.{◌≡◌, inl, inr, ℕ, ◌+◌, ◌*◌, ◌≤◌, List, [], ◌∷◌, ◌++◌, length, Option, Some, None, refl, sym, subst, arith}
 use Rattle.sea_base.specs.Space.{Store, Seen, Agrees}
 use Rattle.sea_base.proofs.Spaces.{agrees_before, only_read-refl}
 use Rattle.sea_tree.specs.Plan.{plan_changes}
 use Rattle.sea_tree.specs.Does.{ChangesAtMost}
-use Rattle.sea_tree.specs.Form.{HasForm, HasFirst}
+use Rattle.sea_tree.specs.Form.{HasForm}
 use Rattle.sea_tree.proofs.Doing.{Does-agrees, ChangesAtMost-read, ChangesAtMost-then}
 use Rattle.sea_omap.specs.Changes.{Change, HasKeyForm, ChangesKey, ChangesKeys}
 use Rattle.sea_omap.proofs.Given.{Gives, key_gives}

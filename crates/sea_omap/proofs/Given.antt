@@ -1,5 +1,5 @@
 -- How many addresses a change of one key is given.
-use Rattle.std.proofs.Common.{◌≡◌, ◌⊎◌, inl, inr, ℕ, zero, suc, ◌+◌, ◌*◌, ◌<◌, ◌≤◌, List, [], ◌∷◌, length, reverse, Option, Some, None, refl, ap, sym, subst, arith}
+use Rattle.std.proofs.Common.{inl, inr, ℕ, zero, suc, ◌+◌, ◌≤◌, List, [], ◌∷◌, length, reverse, Option, Some, None, ap, arith}
 use Rattle.std.proofs.lemmas.List.{length-reverse}
 use Rattle.sea_base.specs.Space.{Store, Seen}
 use Rattle.sea_node.specs.Entries.{Entry}
@@ -9,7 +9,7 @@ use Rattle.sea_tree.specs.Does.{Change}
 use Rattle.sea_tree.specs.Mending.{after_edit}
 use Rattle.sea_tree.specs.Changing.{RootRebalanced}
 use Rattle.sea_tree.specs.Rebalanced.{Rebalanced}
-use Rattle.sea_tree.specs.Form.{Rises, HasForm, HasFirst}
+use Rattle.sea_tree.specs.Form.{Rises, HasForm}
 use Rattle.sea_omap.specs.Changes.{HasKeyForm}
 
 -- a root that splits takes two

@@ -1,5 +1,5 @@
 -- Keys changed one by one in a loop: one more, the end, and one that failed.
-use Rattle.std.proofs.Common.{◌≡◌, ℕ, suc, ◌+◌, ◌-◌, ◌*◌, ◌<◌, ◌≤◌, ◌^◌, List, [], ◌∷◌, ◌++◌, length, map, get_or, take, drop, Bool, cond, Option, Some, None, is_some, is_none, refl, sym, ap, subst, ◌∙◌, arith}
+use Rattle.std.proofs.Common.{◌≡◌, ℕ, suc, ◌+◌, ◌*◌, ◌<◌, ◌≤◌, List, [], ◌∷◌, ◌++◌, length, map, get_or, take, drop, Bool, cond, Option, is_some, is_none, sym, ap, subst, ◌∙◌, arith}
 use Rattle.std.specs.List.{count_by}
 use Rattle.std.proofs.Math.ListN.{get_or-map}
 use Rattle.std.proofs.Math.Seq.{drop-cons}
@@ -16,7 +16,7 @@ use Rattle.sea_omap.specs.Changes.{Change, puts, removals, ChangesKey, ChangesKe
 use Rattle.sea_omap.specs.Calls.{Counts, Fails, Footprint, Meets, Becomes}
 use Rattle.sea_omap.proofs.Chains.{changes_more, keys_few}
 use Rattle.sea_omap.proofs.Contents.{found_in, after_puts, after_removals, puts_counted, removals_counted}
-use Rattle.sea_omap.proofs.Stores.{Makes, keys_make, never_full}
+use Rattle.sea_omap.proofs.Stores.{keys_make, never_full}
 
 -- the change of an item of a list, at its index
 pub change_at : {X : Type 0} (f : X → Change) (xs ys : List X) (i : ℕ) (item : X) → ys ≡ xs → i < length ys → item ≡ get_or ys i item → (i < length (map f xs)) × (get_or (map f xs) i (f item) ≡ f item)

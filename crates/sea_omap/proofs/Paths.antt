@@ -1,10 +1,10 @@
 -- Near a path of a tree stand its nodes.
-use Rattle.std.proofs.Common.{◌≡◌, ◌⊎◌, inl, inr, ℕ, zero, suc, List, [], ◌∷◌, ◌++◌, Option, Some, refl, sym, subst}
+use Rattle.std.proofs.Common.{◌≡◌, ◌⊎◌, inl, inr, ℕ, zero, suc, List, [], ◌∷◌, ◌++◌, Option, refl, sym, subst}
 use Rattle.std.specs.List.{Contains}
 use Rattle.std.proofs.lemmas.List.Elements.{Contains-append_left, Contains-append_right}
 use Rattle.sea_base.specs.Space.{Store}
 use Rattle.sea_node.specs.Entries.{Entry}
-use Rattle.sea_tree.specs.Tree.{NodeAt, Bounds, root_bounds, IsAddress, IsBelowNode, IsNodeOf}
+use Rattle.sea_tree.specs.Tree.{Bounds, root_bounds, IsAddress, IsBelowNode, IsNodeOf}
 use Rattle.sea_tree.specs.Breaks.{Child}
 use Rattle.sea_tree.specs.Reads.{OnPath, BesidePath, IsNeighbour, IsNearPath}
 use Rattle.sea_tree.proofs.Holding.{Contains-head, Contains-later}

@@ -7,10 +7,10 @@ use Rattle.std.proofs.lemmas.List.FromFn.{length-range_with_len, get_or-range_wi
 use Rattle.std.proofs.lemmas.List.Elements.{Contains-append_left, Contains-append_right}
 use Rattle.std.specs.FinMap as finite
 use Rattle.sea_base.specs.Space.{Store, Seen, Agrees, laid}
-use Rattle.sea_node.specs.Entries.{Entry, Values}
+use Rattle.sea_node.specs.Entries.{Values}
 use Rattle.sea_tree.specs.declared.fault.TreeFault.{TreeFault}
 use Rattle.sea_tree.specs.declared.fault.TreeFault.TheVariants.{Space, Broken}
-use Rattle.sea_tree.specs.Tree.{NodeAt, IsTree, IsAddress, IsBelowNode, IsNodeOf, AreApart}
+use Rattle.sea_tree.specs.Tree.{NodeAt, IsBelowNode, IsNodeOf, AreApart}
 use Rattle.sea_tree.specs.Content.{HasContent}
 use Rattle.sea_tree.specs.Breaks.{FillsFewer}
 use Rattle.sea_tree.specs.Changing.{changed_content}
@@ -20,11 +20,11 @@ use Rattle.sea_tree.proofs.Apart.{IsNodeOf-filled, IsNodeOf-root}
 use Rattle.sea_tree.proofs.Doing.{Does-agrees}
 use Rattle.sea_tree.proofs.Frames.{NodeAt-kept}
 use Rattle.sea_tree.proofs.Holding.{Contains-head, Contains-later}
-use Rattle.sea_omap.specs.Changes.{Change, ChangesKey, ChangesKeys}
+use Rattle.sea_omap.specs.Changes.{Change, ChangesKeys}
 use Rattle.sea_omap.specs.Calls.{Meets, Becomes, IsOwn, IsGiven}
-use Rattle.sea_omap.proofs.Chains.{GiveAll, key_agrees, keys_agree, keys_give}
+use Rattle.sea_omap.proofs.Chains.{keys_agree, keys_give}
 use Rattle.sea_omap.proofs.Contents.{content_after, found_in}
-use Rattle.sea_omap.proofs.Given.{Gives, key_gives}
+use Rattle.sea_omap.proofs.Given.{key_gives}
 use Rattle.sea_omap.proofs.Paths.{near_path}
 
 filled_or_not : (block : Option (List ℕ)) → (block ≡ None) ⊎ (block ≢ None)

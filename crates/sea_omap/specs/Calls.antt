@@ -1,5 +1,5 @@
 -- What the calls on keys of one tree do, on every store that agrees with what was read.
-use Rattle.std.specs.Prelude.{◌≡◌, ◌≢◌, ◌⊎◌, ℕ, ◌-◌, ◌*◌, ◌^◌, ◌<◌, ◌≤◌, Bool, true, List, ◌∷◌, ◌++◌, length, Option, None}
+use Rattle.std.specs.Prelude.{◌≡◌, ◌≢◌, ◌⊎◌, ℕ, ◌-◌, ◌*◌, ◌^◌, ◌<◌, ◌≤◌, Bool, true, List, ◌∷◌, ◌++◌, Option, None}
 use Rattle.std.specs.List.{count_by}
 use Rattle.sea_base.specs.Space.{Store, Seen, laid}
 use Rattle.sea_node.specs.Entries.{Values}

@@ -1,7 +1,6 @@
-use Rattle.std.proofs.Common.{◌≡◌, ◌⊎◌, inl, inr, ◌+◌, ◌*◌, ℕ, List, length, map, take, Bool, true, false, not, cond, Option, Some, None, is_some, is_none, sym, ap, subst, ◌∙◌, arith}
+use Rattle.std.proofs.Common.{◌≡◌, ◌⊎◌, inl, inr, ◌+◌, ℕ, List, length, take, Bool, true, false, not, cond, Option, Some, None, is_some, is_none, sym, ap, subst, arith}
 use Rattle.std.proofs.lemmas.List.{length-map, length-take}
 use Rattle.std.proofs.lemmas.Result.{err_from_is_err_and}
-use Rattle.sea_base.specs.Space.{Seen}
 use Rattle.sea_base.proofs.Calling.{call_then}
 use Rattle.sea_node.specs.Entries.{Entry}
 use Rattle.sea_omap.specs.Changes.{Change, ChangesKey, puts}

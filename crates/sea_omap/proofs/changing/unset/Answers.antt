@@ -1,9 +1,8 @@
-use Rattle.std.proofs.Common.{◌≡◌, ◌⊎◌, inl, inr, ◌+◌, ◌*◌, ℕ, List, length, map, take, Bool, true, false, not, cond, Option, Some, None, MatchOption, is_some, sym, ap, subst, ◌∙◌, arith}
+use Rattle.std.proofs.Common.{◌≡◌, ◌⊎◌, inl, inr, ◌+◌, ℕ, List, length, take, Bool, true, false, cond, Option, Some, None, MatchOption, is_some, sym, ap, subst, arith}
 use Rattle.std.proofs.lemmas.List.{length-map, length-take}
 use Rattle.std.proofs.lemmas.Result.{err_from_is_err_and}
 use Rattle.sea_base.specs.Space.{Seen, OnlyRead}
 use Rattle.sea_base.proofs.Calling.{call_then}
-use Rattle.sea_node.specs.Entries.{Entry}
 use Rattle.sea_tree.specs.Form.{HasForm}
 use Rattle.sea_omap.specs.Changes.{Change, HasKeyForm, ChangesKey, removals}
 use Rattle.sea_omap.specs.Calls.{Counts}
