@@ -9,8 +9,8 @@ use crate::order::WORD_BYTES;
 use crate::reading::{LENGTHS_BYTES, Span};
 use sea_base::{BLOCK_BYTES, u16_at, u64_at};
 
-/// The number that the first bytes of a key spell, or 0 of a short one. Keys whose first bytes spell
-/// a lower one are below the key.
+/// The number that the first bytes of a key spell, or 0 of a short one. Keys whose first bytes
+/// spell a lower one are below the key.
 #[inline(always)]
 pub(crate) fn first_word(key: &[u8]) -> u64
     ensures { (other : List ℕ) → HasWordBelow other result → IsBelow other key.now }
@@ -21,8 +21,8 @@ pub(crate) fn first_word(key: &[u8]) -> u64
     u64_at(key, 0)
 }
 
-/// The last of the entries that go on from one with its lengths, while the first words of their keys
-/// rise and are below a number.
+/// The last of the entries that go on from one with its lengths, while the first words of their
+/// keys rise and are below a number.
 #[inline(always)]
 pub(crate) fn leap(bytes: &[u8], first: Span, below: u64) -> Span
     requires block { length bytes.now ≡ BLOCK_BYTES }

@@ -157,7 +157,11 @@ fn turn_off(
     ensures address { IfOk result (λ child.
         IfSome sight.lookup.found (λ entry. IsAddress entry.1 child.0.0)) }
     ensures bounds { IfOk result (λ child. IfSome sight.lookup.found (λ entry. meant child.1
-        ≡ record { least = LEAST_BYTES; lower = entry.0; upper = option_or sight.lookup.next upper })) }
+        ≡ record {
+          least = LEAST_BYTES;
+          lower = entry.0;
+          upper = option_or sight.lookup.next upper;
+        })) }
     ensures turns { OnOk result (MatchOption sight.lookup.next (turns.new.items ≡ turns.old.items)
         (λ next. turns.new.items ≡ turns.old.items
         ++ record { at = sight.at; block = sight.block; upper = upper } ∷ [])) }

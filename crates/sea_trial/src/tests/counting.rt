@@ -80,14 +80,14 @@ fn large_tree(alloc: Global) -> Result<(CountingSpace, u32), TrialFault> {
 #[test]
 fn a_range_reads_each_node_once(rt: HostRuntime) -> Result<(), TrialFault> {
     let alloc = rt.alloc();
-    let mut tree = filled_tree(alloc, 3_000)?;
+    let mut tree = filled_tree(alloc, 1_000)?;
     let nodes = tree.check()?.nodes;
     let mut space = CountingSpace {
         space: tree.into_space(),
         gets: 0,
     };
-    let pairs = range(alloc, &mut space, ROOT, None, 4_000)?;
-    assert!(rt; pairs.items().len() == 3_000);
+    let pairs = range(alloc, &mut space, ROOT, None, 2_000)?;
+    assert!(rt; pairs.items().len() == 1_000);
     assert!(rt; u64::from(space.gets) == nodes);
     Ok(())
 }
