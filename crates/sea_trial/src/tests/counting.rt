@@ -7,7 +7,7 @@ use crate::keys::key_of;
 use crate::map_tree::ROOT;
 use crate::trial::filled_tree;
 use sea_base::{Block, Delta, Laddr, MapSpace, Space, SpaceFault};
-use sea_tree::{get, range};
+use sea_tree::get;
 use std::alloc::Global;
 
 // A space in memory whose gets are counted.
@@ -75,21 +75,6 @@ fn large_tree(alloc: Global) -> Result<(CountingSpace, u32), TrialFault> {
         gets: 0,
     };
     Ok((space, levels))
-}
-
-#[test]
-fn a_range_reads_each_node_once(rt: HostRuntime) -> Result<(), TrialFault> {
-    let alloc = rt.alloc();
-    let mut tree = filled_tree(alloc, 1_000)?;
-    let nodes = tree.check()?.nodes;
-    let mut space = CountingSpace {
-        space: tree.into_space(),
-        gets: 0,
-    };
-    let pairs = range(alloc, &mut space, ROOT, None, 2_000)?;
-    assert!(rt; pairs.items().len() == 1_000);
-    assert!(rt; u64::from(space.gets) == nodes);
-    Ok(())
 }
 
 #[test]
