@@ -51,7 +51,7 @@ impl Arguments {
         if words.len() < first.len() || !further.may_follow(words.len() - first.len()) {
             return Err(LineFault::Why(ScriptWhy::BadOp));
         }
-        let mut arguments = Vec::new(alloc);
+        let mut arguments = Vec::with_capacity(alloc, words.len())?;
         for (index, word) in words.iter().enumerate() {
             let kind = kind_at(first, further, index);
             arguments.push(read_word(alloc, kind, *word)?)?;

@@ -22,7 +22,7 @@ pub fn is_blank(line: &[u8]) -> bool
 pub fn words_of(alloc: Global, line: &[u8]) -> Result<Vec<&[u8]>, NoMemory>
     ensures { IfOk result (λ all. seen all.items ≡ words line.now) }
 {
-    let mut all = Vec::new(alloc);
+    let mut all = Vec::with_capacity(alloc, 16)?;
     let mut parts = Parts::new(b' ', line);
     while let Some(word) = parts.next() {
         all.push(word)?;

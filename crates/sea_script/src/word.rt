@@ -43,7 +43,7 @@ pub fn name_of(alloc: Global, word: &[u8]) -> Result<Name, LineFault>
     ensures { Finds (λ name. IsName name × AreBytes name × (word.now ≡ name_text name))
         ScriptWhy.BadName result }
 {
-    let mut bytes = Vec::new(alloc);
+    let mut bytes = Vec::with_capacity(alloc, word.len())?;
     let mut rest = word;
     while !rest.is_empty() {
         let Some((byte, others)) = name_byte(rest) else {

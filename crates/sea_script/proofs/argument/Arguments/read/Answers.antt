@@ -20,7 +20,7 @@ returns-in_err-read_word c =
     let may = c.may_follow.ensures.0 c.if-not-may_follow.false in
     let counted = count_is c.args.row.2.now c.args.row.3 called words c.requires.1 c.requires.2 c.if-words-first.false may in
     let here = kind_is c.args.row.2.now c.args.row.3 called words index kind c.requires.1 c.requires.2 (c.kind_at-kind.ensures (length words - length c.args.row.2.now) may (omega arith)) in
-    let p = err_from_is_err_and c.from_residual.result c.from_residual.ensures.1 in
+    let p = err_from_is_err_and c.from_residual-in_err-read_word.result c.from_residual-in_err-read_word.ensures.1 in
     rw (p.1, p.2)
     (read_fails called (seen words) read kind (drop (suc index) all) (get_or words index d).now (drop (suc index) (seen words)) c.in_err-read_word.field-0.0 counted c.loop-index.invariant.good (c.loop-index.invariant.kinds ∙ ap (λ xs. kinds read ++ xs) (kinds_at all index kind here)) (c.loop-index.invariant.words ∙ ap (λ xs. map argument_text read ++ xs) (seen_at words index d c.loop-index-test.true)) c.in_err-read_word.ensures)
 
