@@ -20,7 +20,7 @@ const SCRIPT: &str = "1 touch a ; write a 0 x41 ; zero a 1 1 ; setattr a k x01 ;
 
 // The reply to a copy of a request.
 fn reply(objects: &mut Objects, plan: &Plan, number: u32) -> Result<Reply, TrialFault> {
-    if plan.count(1) < number || number == 0 {
+    if plan.clients() == 0 || plan.count(1) < number || number == 0 {
         return Err(TrialFault::TooMany);
     }
     let request = plan.request(1, number).copy()?;
