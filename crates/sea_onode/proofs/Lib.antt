@@ -1,0 +1,5 @@
+pub mod Examples
+pub mod Onodes
+pub mod Order
+pub mod Saving
+pub mod Spelling

@@ -1,0 +1,4 @@
+pub mod Calls
+pub mod Onodes
+pub mod Order
+pub mod Spelling
