@@ -12,14 +12,14 @@ use Rattle.sea_segment.specs.Header.{SpellsHeader}
 use Rattle.sea_segment.specs.declared.header.Header.{Header}
 use Rattle.sea_segment.proofs.Headers.{same_header}
 use Rattle.sea_trail.specs.Laws.{KeepsLinks, SameSegment, rest_of}
-use Rattle.sea_trail.specs.Trail.{AreHeaders, AreParts, HasHeader, IsChain, IsNewest, IsTrail, block_of, body_of, chain_end, first_block, header_block, header_link, last_link, link_of, segment_end, trail_link}
+use Rattle.sea_trail.specs.Trail.{AreHeaders, AreParts, HasHeader, IsChain, IsNewest, IsNumbered, IsTrail, block_of, body_of, chain_end, first_block, header_block, header_link, last_link, link_of, segment_end, trail_link}
 use Rattle.sea_trail.specs.declared.link.Link.{Link}
 use Rattle.sea_trail.specs.declared.trail.Part.{Part}
 use Rattle.sea_trail.specs.declared.trail.Trail.{Trail}
 use Rattle.sea_trail.proofs.Chains.{within}
 use Rattle.sea_trail.proofs.Growth.{chain_end-ge, grows, kept_header, kept_numbered}
 use Rattle.sea_journal.proofs.Overlays.{front_part}
-use Rattle.sea_journal.specs.Log.{Extends, HasTail}
+use Rattle.sea_journal.specs.Log.{Extends, HasTail, IsOfTrail}
 
 -- parts that a tear leaves as they were
 pub before_tear : (at count i j : ℕ) (old new : List ℕ) → Torn at count old new → i ≤ j → j ≤ at → slice_range new i j ≡ slice_range old i j
@@ -116,7 +116,7 @@ module _ (old new : List ℕ) (t : Trail) (trail : IsTrail old t) (torn : Torn (
   pub had : (k : Header) → HasHeader new t.segments k → HasHeader old t.segments k
   had k has = record { within = has.within; stands = kept_header new old k (sym (same_front k.segment)) has.stands }
 
-  has_still : (k : Header) → HasHeader old t.segments k → HasHeader new t.segments k
+  pub has_still : (k : Header) → HasHeader old t.segments k → HasHeader new t.segments k
   has_still k has = record { within = has.within; stands = kept_header old new k (same_front k.segment) has.stands }
 
   pub newest_still : IsNewest new t.segments trail.newest.header
@@ -137,8 +137,26 @@ module _ (old new : List ℕ) (t : Trail) (trail : IsTrail old t) (torn : Torn (
     headers_still (h.segment + 1) to hs are.4,
   )
 
+  -- a segment of a trail that goes on was one before
+  pub of_before : (u : Trail) (s n : ℕ) → u.segments ≡ t.segments → u.seq ≡ t.seq → t.tail.seq ≤ u.tail.seq → IsOfTrail new u s n → IsOfTrail old t s n
+  of_before u s n segments seq tail of =
+      let is : IsNumbered new t.segments n of.header = subst (λ (m : ℕ). IsNumbered new m n of.header) segments of.numbered in
+      let low = of.from in
+      let high = of.upto in
+      record {
+        from = omega arith;
+        upto = omega arith;
+        header = of.header;
+        numbered = record {
+          has = had of.header is.has;
+          number = is.number;
+          least = λ k has e. is.least k (has_still k has) e;
+        };
+        here = of.here;
+      }
+
   -- With records behind the trail it has the trail that these extend.
-  pub extended : (news : List Record) → IsChain (rest_of new t) t.end.0 t.seq (trail_link t) news → HasTail old t trail news → (u : Trail) × IsTrail new u × Extends t news u
+  pub extended : (news : List Record) → IsChain (rest_of new t) t.end.0 t.seq (trail_link t) news → HasTail old t trail news → (u : Trail) × IsTrail new u × Extends t news u × (u.headers ≡ t.headers)
   extended news chain tail =
       let link = last_link (trail_link t) news in
       let u : Trail = record {
@@ -170,7 +188,6 @@ module _ (old new : List ℕ) (t : Trail) (trail : IsTrail old t) (torn : Torn (
         }),
         record {
           segments = refl;
-          headers = refl;
           active = refl;
           seq = refl;
           ends = refl;
@@ -178,4 +195,5 @@ module _ (old new : List ℕ) (t : Trail) (trail : IsTrail old t) (torn : Torn (
           gone = tail.gone;
           records = tail.left;
         },
+        refl,
       )

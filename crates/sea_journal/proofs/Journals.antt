@@ -1,7 +1,7 @@
 -- What the calls of a journal make of its past.
 use Rattle.std.proofs.Common.{◌≡◌, ℕ, ◌+◌, ◌-◌, ◌*◌, ◌<◌, ◌≤◌, List, [], ◌∷◌, ◌++◌, length, take, drop, replicate, refl, sym, ap, ◌∙◌, subst, inl, inr, arith, length-append}
 use Rattle.std.specs.Result.{is_err}
-use Rattle.std.specs.Prelude.{Bool, false, Option, Some, None, Result, Ok, Err, OnOk, OnErr}
+use Rattle.std.specs.Prelude.{Bool, true, false, Option, Some, None, IfSome, Result, Ok, Err, OnOk, OnErr}
 use Rattle.std.specs.Option.{option_map}
 use Rattle.std.specs.List.{flat_map}
 use Rattle.std.proofs.Common.{cond}
@@ -11,10 +11,12 @@ use Rattle.std.proofs.lemmas.List.{append-nil, drop-drop, drop-take, length-repl
 use Rattle.sea_base.specs.declared.place.Root.{Root}
 use Rattle.sea_base.specs.declared.place.Tail.{Tail}
 use Rattle.sea_device.specs.declared.device.Device.{Ghosts}
+use Rattle.sea_device.specs.Calls.{OnlyRead}
 use Rattle.sea_device.specs.Device.{IsImage, Torn, overwritten}
 use Rattle.sea_record.specs.Record.{IsRecord, blocks, metadata, record_bytes}
 use Rattle.sea_record.specs.declared.record.Body.{Body}
 use Rattle.sea_record.specs.declared.record.Record.{Record}
+use Rattle.sea_segment.specs.declared.header.Header.{Header}
 use Rattle.sea_trail.specs.Laws.{rest_of}
 use Rattle.sea_trail.specs.Trail.{IsChain, IsTrail, chain_end, first_block, last_link, segment_end, trail_link}
 use Rattle.sea_trail.specs.declared.link.Link.{Link}
@@ -23,15 +25,19 @@ use Rattle.sea_trail.proofs.Growth.{chain_end-ge}
 use Rattle.sea_journal.specs.Changes.{ChangesBy, ToldBy}
 use Rattle.sea_journal.specs.Journal.{CrashesKeep, HasLog, IsSettled}
 use Rattle.sea_journal.specs.Links.{IsNext, queue_bytes}
-use Rattle.sea_journal.specs.Log.{Log, IsLog, IsAfter, IsSynced, Extends, pushed, stays}
+use Rattle.sea_journal.specs.Log.{Log, DiffersBy, IsLog, IsAfter, IsBehind, IsBeside, IsNextHeader, IsOfTrail, IsSynced, Extends, pushed, stays}
 use Rattle.sea_journal.specs.Queue.{BeginsBehind, IsEmptied, IsWritten, Waits, batch}
 use Rattle.sea_journal.specs.Resume.{CanResume, mount_body, mount_record, opened, record_behind}
+use Rattle.sea_journal.specs.Rolls.{InTable, Writes}
 use Rattle.sea_journal.specs.declared.journal.Journal.{Journal}
 use Rattle.sea_journal.specs.declared.queue.Queue.{Queue}
-use Rattle.sea_journal.proofs.Afters.{Bounds, bounds}
+use Rattle.sea_journal.specs.declared.roll.Roll.{Roll}
+use Rattle.sea_journal.proofs.Afters.{Bounds, bounds, of_before}
 use Rattle.sea_journal.proofs.Calls.{IfSome-at}
-use Rattle.sea_journal.proofs.Pasts.{clear_has_prefix, opened_is, pushed_is, synced}
+use Rattle.sea_journal.proofs.Openings.{after_none, clear_has_prefix}
+use Rattle.sea_journal.proofs.Pasts.{clear_behind, later_tail, opened_is, pushed_is, synced}
 use Rattle.sea_journal.proofs.Queues.{IsBatch, laid_in, length-queued, written_chain}
+use Rattle.sea_journal.proofs.Tables.{later_in_table}
 use Rattle.sea_journal.proofs.Tears.{Torn-more, Torn-none}
 
 -- ---- results
@@ -52,12 +58,16 @@ pub OnErr-ok : {E : Type 0} (R : Type 0) (r : Result (Unit {0}) E) → r ≡ Ok 
 OnErr-ok R (Ok x) is = tt
 OnErr-ok R (Err e) is = absurd (cc)
 
+pub OnErr-here : {T E R : Type 0} (r : Result T E) → is_err r ≡ true → OnErr r R → R
+OnErr-here (Ok x) is it = absurd (cc)
+OnErr-here (Err e) is it = it
+
 pub OnOk-here : {T E R : Type 0} (r : Result T E) → is_err r ≡ false → OnOk r R → R
 OnOk-here (Ok x) is it = it
 OnOk-here (Err e) is it = absurd (cc)
 
 -- told bytes that came by a step
-told_after : (step : List ℕ → List ℕ → Type 0) (b : List ℕ) (old new : Option (List ℕ)) → old ≡ Some b → ToldBy step old new → (c : List ℕ) × (new ≡ Some c) × step b c
+pub told_after : (step : List ℕ → List ℕ → Type 0) (b : List ℕ) (old new : Option (List ℕ)) → old ≡ Some b → ToldBy step old new → (c : List ℕ) × (new ≡ Some c) × step b c
 told_after step b old new told by = at_some new (subst (λ (o : Option (List ℕ)). ToldBy step o new) told by)
   where
     at_some : (new : Option (List ℕ)) → ToldBy step (Some b) new → (c : List ℕ) × (new ≡ Some c) × step b c
@@ -133,7 +143,77 @@ rest_is t image edge =
     ap (λ (k : ℕ). drop n (take k (drop first image))) whole ∙ drop-take n room (drop first image)
     ∙ ap (take room) (drop-drop n first image ∙ ap (λ (k : ℕ). drop k image) at)
 
+-- ---- whether a header is being written
+
+pub written_none : (o : Option Header) (roll : Option Roll) → Writes o roll → roll ≡ None → o ≡ None
+written_none None None writes e = refl
+written_none None (Some r) writes e = absurd writes
+written_none (Some h) None writes e = absurd writes
+written_none (Some h) (Some r) writes e = absurd (cc)
+
+pub written_some : (o : Option Header) (roll : Option Roll) (r : Roll) → Writes o roll → roll ≡ Some r → o ≡ Some r.header
+written_some None None r writes e = absurd (cc)
+written_some None (Some x) r writes e = absurd writes
+written_some (Some h) None r writes e = absurd writes
+written_some (Some h) (Some x) r writes e =
+    let same : x ≡ r = cc in
+    ap (λ (k : Header). Some k) (sym writes ∙ ap (λ (y : Roll). y.header) same)
+
+pub of_none : (log : Log) (image : List ℕ) → log.next ≡ None → IsBehind log image → IsAfter log image
+of_none log image steady behind = by_cases log.next steady
+  where
+    by_cases : (o : Option Header) → o ≡ None → DiffersBy log o image
+    by_cases None e = behind
+    by_cases (Some h) e = absurd (cc)
+
+pub of_some : (log : Log) (h : Header) (image : List ℕ) → log.next ≡ Some h → IsBeside log h image → IsAfter log image
+of_some log h image writing beside = by_cases log.next writing
+  where
+    by_cases : (o : Option Header) → o ≡ Some h → DiffersBy log o image
+    by_cases None e = absurd (cc)
+    by_cases (Some k) e = let same : h ≡ k = cc in subst (λ (x : Header). IsBeside log x image) same beside
+
+pub after_some : (log : Log) (h : Header) (image : List ℕ) → log.next ≡ Some h → IsAfter log image → IsBeside log h image
+after_some log h image writing after = by_cases log.next writing after
+  where
+    by_cases : (o : Option Header) → o ≡ Some h → DiffersBy log o image → IsBeside log h image
+    by_cases None e after = absurd (cc)
+    by_cases (Some k) e after = let same : k ≡ h = cc in subst (λ (x : Header). IsBeside log x image) same after
+
+-- where nothing is queued all is stable
+pub none_synced : (log : Log) → log.queued ≡ [] → IsSynced log log
+none_synced log none = record {
+  opened = refl;
+  headers = refl;
+  made = refl;
+  trail = subst (λ (rs : List Record). Extends log.trail rs log.trail) (sym none) (record {
+    segments = refl;
+    active = refl;
+    seq = refl;
+    ends = refl;
+    last = refl;
+    gone = [];
+    records = append-nil log.trail.records;
+  });
+  stand = refl;
+  queued = none;
+  next = refl;
+}
+
 module _ {D : Type 0} {g : Ghosts D} where
+  -- where records wait no header is being written
+  pub steady_some : (log : Log) (j : Journal D g) → HasLog g log j → j.queue.start.0 < j.queue.place.0 → log.next ≡ None
+  steady_some log j has some = by_cases log.next has.is_log.next
+    where
+      by_cases : (o : Option Header) → IfSome o (IsNextHeader log) → o ≡ None
+      by_cases None next = refl
+      by_cases (Some h) next =
+          let here : chain_end log.trail.end.0 log.queued ≡ log.trail.end.0 = ap (chain_end log.trail.end.0) next.alone in
+          absurd (omega (arith, has.waits.start, has.waits.place, here))
+
+  pub behind_of : (log : Log) (j : Journal D g) → HasLog g log j → log.next ≡ None → (c : List ℕ) → g.may_leave j.device c → IsBehind log c
+  behind_of log j has steady c left = after_none log c steady (has.images c left)
+
   -- from the old device at each moment
   pub after_change : (log : Log) (old : Journal D g) (new : D) → HasLog g log old → (let q = old.queue in ChangesBy (Torn (4096 * q.start.0) (4096 * (segment_end q.active - q.start.0))) g old.device new)
       → ChangesBy (Torn (4096 * log.trail.end.0) (4096 * (segment_end log.trail.active - log.trail.end.0))) g old.device new
@@ -142,86 +222,99 @@ module _ {D : Type 0} {g : Ghosts D} where
       (subst (λ (a : ℕ). ChangesBy (Torn (4096 * old.queue.start.0) (4096 * (segment_end a - old.queue.start.0))) g old.device new) has.waits.active changes)
 
   -- each image of a moment of the call comes after the anchor
-  pub moments_after : (log : Log) (old : Journal D g) (new : D) → HasLog g log old → ((c : List ℕ) → g.left_since old.device (g.clock old.device) c → g.may_leave old.device c)
+  pub moments_after : (log : Log) (old : Journal D g) (new : D) → HasLog g log old → log.next ≡ None → ((c : List ℕ) → g.left_since old.device (g.clock old.device) c → g.may_leave old.device c)
       → ChangesBy (Torn (4096 * log.trail.end.0) (4096 * (segment_end log.trail.active - log.trail.end.0))) g old.device new
-      → (c : List ℕ) → g.left_since new (g.clock old.device) c → IsAfter log c
-  moments_after log old new has only changes c left =
+      → (c : List ℕ) → g.left_since new (g.clock old.device) c → IsBehind log c
+  moments_after log old new has steady only changes c left =
       let at = 4096 * log.trail.end.0 in
       let count = 4096 * (segment_end log.trail.active - log.trail.end.0) in
       elim (changes.moments (g.clock old.device) c (omega arith) left) [
-        | inl past ↦ has.images c (only c past)
-        | inr from ↦ Torn-more at count log.anchor from.0 c (has.images from.0 from.1) from.2
+        | inl past ↦ behind_of log old has steady c (only c past)
+        | inr from ↦ Torn-more at count log.anchor from.0 c (behind_of log old has steady from.0 from.1) from.2
       ]
 
-  pub keeps_at_crash : (log : Log) (old : Journal D g) (new : D) → HasLog g log old → ((c : List ℕ) → g.left_since old.device (g.clock old.device) c → g.may_leave old.device c)
+  pub keeps_at_crash : (log : Log) (old : Journal D g) (new : D) → HasLog g log old → log.next ≡ None → ((c : List ℕ) → g.left_since old.device (g.clock old.device) c → g.may_leave old.device c)
       → (let q = old.queue in ChangesBy (Torn (4096 * q.start.0) (4096 * (segment_end q.active - q.start.0))) g old.device new)
       → CrashesKeep g log old.device new
-  keeps_at_crash log old new has only changes c left clear =
-      clear_has_prefix log c has.is_log (moments_after log old new has only (after_change log old new has changes) c left) clear
+  keeps_at_crash log old new has steady only changes c left clear =
+      clear_behind log c has.is_log (moments_after log old new has steady only (after_change log old new has changes) c left) clear.records
+
+  -- without a call of the device a crash leaves what it might have left
+  pub keeps_idle : (log : Log) (old : Journal D g) (new : D) → HasLog g log old → ((c : List ℕ) → g.left_since old.device (g.clock old.device) c → g.may_leave old.device c) → new ≡ old.device → CrashesKeep g log old.device new
+  keeps_idle log old new has only same c left clear =
+      clear_has_prefix log c has.is_log (has.images c (only c (subst (λ (d : D). g.left_since d (g.clock old.device) c) same left))) clear
 
   -- a call that failed leaves the past as it was
-  pub still_has : (log : Log) (old new : Journal D g) → HasLog g log old → new.queue ≡ old.queue → old.queue.start.0 < old.queue.place.0
+  pub still_has : (log : Log) (old new : Journal D g) → HasLog g log old → new.queue ≡ old.queue → new.table ≡ old.table → new.roll ≡ old.roll → old.queue.start.0 < old.queue.place.0
       → (let q = old.queue in ChangesBy (Torn (4096 * q.start.0) (4096 * (segment_end q.active - q.start.0))) g old.device new.device)
       → HasLog g log new
-  still_has log old new has same some changes =
+  still_has log old new has same table roll some changes =
       let at = 4096 * log.trail.end.0 in
       let count = 4096 * (segment_end log.trail.active - log.trail.end.0) in
+      let steady = steady_some log old has some in
       let by = after_change log old new.device has changes in
       let told = told_after (Torn at count) has.image (g.contents old.device) (g.contents new.device) has.told by.contents in
       record {
         is_log = has.is_log;
         waits = subst (Waits log) (sym same) has.waits;
+        writes = subst (Writes log.next) (sym roll) has.writes;
+        table = subst (InTable log) (sym table) has.table;
         image = told.0;
         told = told.1;
-        after = Torn-more at count log.anchor has.image told.0 has.after told.2;
-        images = λ c left. let from = by.images c left in Torn-more at count log.anchor from.0 c (has.images from.0 from.1) from.2;
-        settled = λ none.
+        after = of_none log told.0 steady (Torn-more at count log.anchor has.image told.0 (after_none log has.image steady has.after) told.2);
+        images = λ c left. let from = by.images c left in of_none log c steady (Torn-more at count log.anchor from.0 c (behind_of log old has steady from.0 from.1) from.2);
+        settled = λ none _.
             let here : chain_end log.trail.end.0 log.queued ≡ log.trail.end.0 = ap (chain_end log.trail.end.0) none in
             absurd (omega (arith, has.waits.start, has.waits.place, here));
       }
 
-  -- nor does one that made no call of the device
-  pub has_as_before : (log : Log) (old new : Journal D g) → HasLog g log old → new.queue ≡ old.queue → new.device ≡ old.device → HasLog g log new
-  has_as_before log old new has queue device = record {
+  -- nor does one that read at most
+  pub has_read : (log : Log) (old new : Journal D g) → HasLog g log old → OnlyRead g old.device new.device → new.queue ≡ old.queue → new.table ≡ old.table → new.roll ≡ old.roll → HasLog g log new
+  has_read log old new has read queue table roll = record {
     is_log = has.is_log;
     waits = subst (Waits log) (sym queue) has.waits;
+    writes = subst (Writes log.next) (sym roll) has.writes;
+    table = subst (InTable log) (sym table) has.table;
+    image = has.image;
+    told = read.contents ∙ has.told;
+    after = has.after;
+    images = λ c left. has.images c ((read.images c).1 left);
+    settled = λ none steady.
+        let was = has.settled none steady in
+        record { alone = λ c left. was.alone c ((read.images c).1 left); held = was.held };
+  }
+
+  -- another table leaves it too
+  pub with_table : (log : Log) (old new : Journal D g) → HasLog g log old → new.queue ≡ old.queue → new.device ≡ old.device → new.roll ≡ old.roll → InTable log new.table → HasLog g log new
+  with_table log old new has queue device roll table = record {
+    is_log = has.is_log;
+    waits = subst (Waits log) (sym queue) has.waits;
+    writes = subst (Writes log.next) (sym roll) has.writes;
+    table = table;
     image = has.image;
     told = ap g.contents device ∙ has.told;
     after = has.after;
     images = λ c left. has.images c (subst (λ (d : D). g.may_leave d c) device left);
-    settled = λ none. subst (IsSettled g log) (sym device) (has.settled none);
+    settled = λ none steady. subst (IsSettled g log has.image) (sym device) (has.settled none steady);
   }
 
-  pub idle_synced : (log : Log) (old new : Journal D g) → HasLog g log old → new.queue ≡ old.queue → new.device ≡ old.device → old.queue.place.0 ≡ old.queue.start.0 → (next : Log) × HasLog g next new × IsSynced log next
-  idle_synced log old new has queue device empty =
-      let none : log.queued ≡ [] = none_queued log.trail.end.0 log.queued (sym has.waits.place ∙ empty ∙ has.waits.start) in (
-        log,
-        has_as_before log old new has queue device,
-        record {
-          opened = refl;
-          headers = refl;
-          made = refl;
-          trail = subst (λ (rs : List Record). Extends log.trail rs log.trail) (sym none) (record {
-            segments = refl;
-            headers = refl;
-            active = refl;
-            seq = refl;
-            ends = refl;
-            last = refl;
-            gone = [];
-            records = append-nil log.trail.records;
-          });
-          queued = none;
-        },
-      )
+  -- nor does one that made no call of the device
+  pub has_as_before : (log : Log) (old new : Journal D g) → HasLog g log old → new.queue ≡ old.queue → new.device ≡ old.device → new.table ≡ old.table → new.roll ≡ old.roll → HasLog g log new
+  has_as_before log old new has queue device table roll = with_table log old new has queue device roll (subst (InTable log) (sym table) has.table)
+
+  pub idle_synced : (log : Log) (old new : Journal D g) → HasLog g log old → new.queue ≡ old.queue → new.device ≡ old.device → new.table ≡ old.table → new.roll ≡ old.roll → old.queue.place.0 ≡ old.queue.start.0 → (next : Log) × HasLog g next new × IsSynced log next
+  idle_synced log old new has queue device table roll empty =
+      let none : log.queued ≡ [] = none_queued log.trail.end.0 log.queued (sym has.waits.place ∙ empty ∙ has.waits.start) in
+      (log, has_as_before log old new has queue device table roll, none_synced log none)
 
   -- What was queued is written and stable.
-  pub written_synced : (log : Log) (old new : Journal D g) → HasLog g log old → IsWritten g old.queue old.device new.device → IsEmptied old.queue new.queue → old.queue.start.0 < old.queue.place.0
+  pub written_synced : (log : Log) (old new : Journal D g) → HasLog g log old → new.table ≡ old.table → new.roll ≡ old.roll → IsWritten g old.queue old.device new.device → IsEmptied old.queue new.queue → old.queue.start.0 < old.queue.place.0
       → (let q = old.queue in ChangesBy (Torn (4096 * q.start.0) (4096 * (segment_end q.active - q.start.0))) g old.device new.device)
       → segment_end old.queue.active ≤ g.size old.device → ((d : D) (b : List ℕ) → g.contents d ≡ Some b → IsImage (g.size d) b)
       → (next : Log) × HasLog g next new × IsSynced log next
-  written_synced log old new has written emptied some changes room whole =
+  written_synced log old new has table roll written emptied some changes room whole =
       let t = log.trail in
+      let steady = steady_some log old has some in
       let q = old.queue in
       let at = 4096 * t.end.0 in
       let count = 4096 * (segment_end t.active - t.end.0) in
@@ -229,18 +322,20 @@ module _ {D : Type 0} {g : Ghosts D} where
       let told : g.contents new.device ≡ Some image = written.contents ∙ ap (option_map (overwritten (4096 * q.start.0) (batch q))) has.told in
       let by = after_change log old new.device has changes in
       let step : Torn at count has.image image = subst (λ (o : Option (List ℕ)). ToldBy (Torn at count) o (Some image)) has.told (subst (λ (o : Option (List ℕ)). ToldBy (Torn at count) (g.contents old.device) o) told by.contents) in
-      let after : IsAfter log image = Torn-more at count log.anchor has.image image has.after step in
+      let after : IsBehind log image = Torn-more at count log.anchor has.image image (after_none log has.image steady has.after) step in
       let size : length has.image ≡ 4096 * g.size old.device = (whole old.device has.image has.told).size in
       let laid = laid_in log.queued (4096 * (segment_end q.active - q.start.0)) (4096 * q.start.0) (batch q) has.image (is_batch log q has.is_log has.waits some) (omega (arith, q.order, q.within)) in
       let numbers : take (4096 * (segment_end t.active - t.end.0)) (drop (4096 * t.end.0) image) ≡ take (4096 * (segment_end q.active - q.start.0)) (drop (4096 * q.start.0) image) =
       ap (λ (n : ℕ). take (4096 * (segment_end t.active - n)) (drop (4096 * n) image)) (sym has.waits.start) ∙ ap (λ (a : ℕ). take (4096 * (segment_end a - q.start.0)) (drop (4096 * q.start.0) image)) (sym has.waits.active) in
       let chain : IsChain (rest_of image t) t.end.0 t.seq (trail_link t) log.queued = written_chain (rest_of image t) laid.behind t.end.0 t.seq (trail_link t) log.queued has.is_log.linked (rest_is t image (bounds log.anchor t has.is_log.trail) ∙ numbers ∙ laid.is) laid.none in
-      let made = synced log image has.is_log after chain in
+      let made = synced log image has.is_log steady after chain in
       let next = made.0 in
       let step_to = made.1 in
       let ext = step_to.trail in
       let none : [] ≡ next.queued = sym step_to.queued in
-      let still : IsAfter next image = subst (λ (b : List ℕ). Torn (4096 * next.trail.end.0) (4096 * (segment_end next.trail.active - next.trail.end.0)) b image) (sym made.2)
+      let before : (s n : ℕ) → IsOfTrail next.anchor next.trail s n → IsOfTrail log.anchor t s n = λ s n of.
+      of_before log.anchor image t has.is_log.trail after next.trail s n ext.segments ext.seq (later_tail log has.is_log next.trail ext.last) (subst (λ (b : List ℕ). IsOfTrail b next.trail s n) made.2 of) in
+      let still : IsBehind next image = subst (λ (b : List ℕ). Torn (4096 * next.trail.end.0) (4096 * (segment_end next.trail.active - next.trail.end.0)) b image) (sym made.2)
       (Torn-none (4096 * next.trail.end.0) (4096 * (segment_end next.trail.active - next.trail.end.0)) (g.size new.device) image (whole new.device image told)) in
       let only : (c : List ℕ) → g.may_leave new.device c → c ≡ image = λ c left. IfSome-at (λ (b : List ℕ). c ≡ b) image told (written.alone c left) in (
         next,
@@ -255,14 +350,13 @@ module _ {D : Type 0} {g : Ghosts D} where
             bytes = emptied.bytes ∙ ap queue_bytes none;
             count = emptied.count ∙ ap length none;
           };
+          writes = subst (λ (o : Option Header). Writes o new.roll) (sym step_to.next) (subst (Writes log.next) (sym roll) has.writes);
+          table = subst (InTable next) (sym table) (later_in_table log next old.table ext.segments steady (step_to.next ∙ steady) before has.table);
           image = image;
           told = told;
-          after = still;
-          images = λ c left. subst (IsAfter next) (sym (only c left)) still;
-          settled = λ empty. record {
-            held = told ∙ ap (λ (b : List ℕ). Some b) (sym made.2);
-            alone = λ c left. only c left ∙ sym made.2;
-          };
+          after = of_none next image (step_to.next ∙ steady) still;
+          images = λ c left. of_none next c (step_to.next ∙ steady) (subst (IsBehind next) (sym (only c left)) still);
+          settled = λ empty _. record { held = λ some. sym made.2; alone = only };
         },
         step_to,
       )
@@ -275,7 +369,7 @@ unfolding metadata
 mount_is t size can last = record {
   mount = (omega arith, omega (arith, can.numbers.mount));
   seq = (can.numbers.seq.0, omega (arith, can.numbers.seq.1));
-  place = omega (arith, can.room.rest, can.room.few);
+  place = omega (arith, can.room.rest, can.room.active, can.room.few);
   commit = (omega arith, omega (arith, can.numbers.commit));
   tail = can.fields.tail;
   root = can.fields.root;
@@ -294,7 +388,7 @@ mount_is t size can last = record {
 
 pub mounted_is : (image : List ℕ) (t : Trail) → IsTrail image t → IsRecord (mount_record t) → IsLog (pushed (opened image t) (mount_record t))
 mounted_is image t trail is =
-    pushed_is (opened image t) (mount_record t) (opened_is image t trail) (record { is_record = is; same_segment = refl; in_place = refl; commit = refl; mount = refl; prev = refl }) (stays refl)
+    pushed_is (opened image t) (mount_record t) (opened_is image t trail) (record { is_record = is; same_segment = refl; in_place = refl; commit = refl; mount = refl; prev = refl }) (stays refl) refl
 
 pub mount_blocks : blocks mount_body ≡ 1
 unfolding metadata
@@ -312,18 +406,20 @@ begins_mount t q body begins is =
 
 module _ {D : Type 0} {g : Ghosts D} where
   -- a journal that begins has nothing of its own
-  pub start_has : (image : List ℕ) (t : Trail) (j : Journal D g) → IsTrail image t → Waits (opened image t) j.queue → g.contents j.device ≡ Some image
+  pub start_has : (image : List ℕ) (t : Trail) (j : Journal D g) → IsTrail image t → Waits (opened image t) j.queue → j.roll ≡ None → InTable (opened image t) j.table → g.contents j.device ≡ Some image
       → ((c : List ℕ) → g.may_leave j.device c → c ≡ image) → ((d : D) (b : List ℕ) → g.contents d ≡ Some b → IsImage (g.size d) b) → HasLog g (opened image t) j
-  start_has image t j trail waits told only whole =
-      let still : IsAfter (opened image t) image = Torn-none (4096 * t.end.0) (4096 * (segment_end t.active - t.end.0)) (g.size j.device) image (whole j.device image told) in
+  start_has image t j trail waits ready table told only whole =
+      let still : IsBehind (opened image t) image = Torn-none (4096 * t.end.0) (4096 * (segment_end t.active - t.end.0)) (g.size j.device) image (whole j.device image told) in
       record {
         is_log = opened_is image t trail;
         waits = waits;
+        writes = subst (Writes None) (sym ready) tt;
+        table = table;
         image = image;
         told = told;
         after = still;
-        images = λ c left. subst (IsAfter (opened image t)) (sym (only c left)) still;
-        settled = λ none. record { held = told; alone = only };
+        images = λ c left. subst (IsBehind (opened image t)) (sym (only c left)) still;
+        settled = λ none steady. record { held = λ some. refl; alone = only };
       }
 
 module _ {D : Type 0} (g : Ghosts D) where
@@ -333,10 +429,10 @@ module _ {D : Type 0} (g : Ghosts D) where
       → CrashesKeep g (pushed (opened image t) (mount_record t)) old new
   crash_at_start image t old new trail is told only same only_now whole c left clear =
       let log = pushed (opened image t) (mount_record t) in
-      let still : IsAfter log image = Torn-none (4096 * t.end.0) (4096 * (segment_end t.active - t.end.0)) (g.size old) image (whole old image told) in
+      let still : IsBehind log image = Torn-none (4096 * t.end.0) (4096 * (segment_end t.active - t.end.0)) (g.size old) image (whole old image told) in
       let here : c ≡ image = only c (only_now old c (subst (λ (d : D). g.left_since d (g.clock old) c) same left)) in
-      clear_has_prefix log c (mounted_is image t trail is) (subst (IsAfter log) (sym here) still) clear
+      clear_behind log c (mounted_is image t trail is) (subst (IsBehind log) (sym here) still) clear.records
 
 -- the digest of a link is one
 pub last_digest : (t : Trail) (q : Queue) → BeginsBehind t q → length t.last.0 ≡ 32
-last_digest t q begins = ap (λ (l : Link). length l.digest.0) (sym begins.link) ∙ q.digest
+last_digest t q begins = ap (λ (l : Link). length l.digest.0) (sym begins.link) ∙ q.linked.digest

@@ -10,3 +10,9 @@ pub mod Queues
 pub mod Journals
 pub mod Trials
 pub mod BlocksNow
+pub mod Apart
+pub mod Openings
+pub mod Tables
+pub mod Rolling
+pub mod Rooms
+pub mod Freed

@@ -1,5 +1,5 @@
 -- What holds of a journal's past, and how it goes on.
-use Rattle.std.proofs.Common.{◌≡◌, ℕ, zero, suc, ◌+◌, ◌-◌, ◌*◌, ◌<◌, ◌≤◌, List, [], ◌∷◌, ◌++◌, length, take, drop, refl, sym, ap, ◌∙◌, subst, inl, inr, arith, append_assoc, length-append}
+use Rattle.std.proofs.Common.{◌≡◌, ℕ, zero, suc, ◌+◌, ◌-◌, ◌*◌, ◌<◌, ◌≤◌, List, [], ◌∷◌, ◌++◌, length, take, drop, refl, sym, ap, ◌∙◌, subst, inl, inr, arith, append_assoc, length-append, Option, None, IfSome}
 use Rattle.std.specs.List.{All, Contains}
 use Rattle.std.proofs.lemmas.List.{append-nil, take_all, take-append-le}
 use Rattle.std.proofs.lemmas.List.Elements.{Contains-append_cases, All-append, All-cons, All-contains, All-contains_itself, All-nil, All-push, All-tail, All-weaker, Contains-append_left, Contains-append_right, Contains-push, Contains-push_cases}
@@ -9,11 +9,11 @@ use Rattle.sea_base.specs.declared.place.Tail.{Tail}
 use Rattle.sea_device.specs.Device.{Torn}
 use Rattle.sea_record.specs.Record.{blocks}
 use Rattle.sea_record.specs.declared.record.Record.{Record}
-use Rattle.sea_segment.specs.Header.{SpellsHeader}
+use Rattle.sea_segment.specs.Header.{IsHeader, SpellsHeader}
 use Rattle.sea_segment.specs.declared.header.Header.{Header}
 use Rattle.sea_segment.proofs.Headers.{same_header}
 use Rattle.sea_trail.specs.Laws.{grown_part, rest_of}
-use Rattle.sea_trail.specs.Trail.{AreFrom, AreLinked, AreParts, FollowOn, HasChain, HasHeader, IsChain, IsNewest, IsTrail, body_of, block_of, chain_end, first_block, header_block, header_link, last_link, link_of, records_in, segment_end, trail_link}
+use Rattle.sea_trail.specs.Trail.{AreFrom, AreHeaders, AreLinked, AreParts, FollowOn, HasChain, HasHeader, IsChain, IsNewest, IsTrail, StandsIn, body_of, block_of, chain_end, first_block, header_block, header_link, last_link, link_of, records_in, segment_end, trail_link}
 use Rattle.sea_trail.specs.declared.link.Link.{Link}
 use Rattle.sea_trail.specs.declared.trail.Part.{Part}
 use Rattle.sea_trail.specs.declared.trail.Trail.{Trail}
@@ -21,9 +21,9 @@ use Rattle.sea_trail.proofs.Chains.{chain_end-append, last_link-append}
 use Rattle.sea_trail.proofs.Growth.{grown_chain, grows_from}
 use Rattle.sea_trail.proofs.Unique.{one_trail}
 use Rattle.sea_journal.specs.Links.{IsNext, Linked, StandInRow}
-use Rattle.sea_journal.specs.Log.{Log, IsLog, IsAfter, IsClear, IsKnown, IsOnTrail, IsSynced, HasPrefix, HasTail, NamesTail, at_end, at_record, pushed, stays}
+use Rattle.sea_journal.specs.Log.{Log, IsLog, IsBehind, IsClear, IsKnown, IsKnownHeader, IsNextHeader, IsOnTrail, IsSynced, HasPrefix, HasTail, NamesTail, at_end, at_record, pushed, stays, up_to_record}
 use Rattle.sea_journal.specs.Resume.{opened}
-use Rattle.sea_journal.proofs.Afters.{extended, had, keeps, newest_still}
+use Rattle.sea_journal.proofs.Afters.{extended, had, keeps, newest_still, of_before}
 use Rattle.sea_journal.proofs.Rows.{clear_chain, in_cons, linked_rise, linked_upto, longer_row, row_in_chain, row_of_chain}
 
 All-behind : {X : Type 0} (P : X → Type 0) (xs ys : List X) → All P (xs ++ ys) → All P ys
@@ -31,7 +31,7 @@ All-behind P [] ys all = all
 All-behind P (x ∷ xs) ys all = All-behind P xs ys (All-tail P x (xs ++ ys) all)
 
 -- two headers that are the newest stand in one segment, and are one
-same_newest : (image : List ℕ) (segments : ℕ) (h k : Header) → IsNewest image segments h → IsNewest image segments k → h ≡ k
+pub same_newest : (image : List ℕ) (segments : ℕ) (h k : Header) → IsNewest image segments h → IsNewest image segments k → h ≡ k
 same_newest image segments h k one two =
     let up = one.greatest k two.numbered.has in
     let down = two.greatest h one.numbered.has in
@@ -91,20 +91,24 @@ module _ (old new : List ℕ) (t : Trail) (trail : IsTrail old t) (torn : Torn (
 
 -- ---- a clear image
 
-pub clear_has_prefix : (log : Log) (image : List ℕ) → IsLog log → IsAfter log image → IsClear log image → HasPrefix log image
-clear_has_prefix log image is after clear =
+-- the records in a row behind its newest header are known
+abbrev pub KnowsRows : Log → List ℕ → Type 0
+KnowsRows log image = (h : Header) (row : List Record) → IsNewest image log.trail.segments h → StandInRow (body_of image h.segment) (first_block h.segment) h.seq (header_link h) row → All (IsKnown log) row
+
+pub clear_behind : (log : Log) (image : List ℕ) → IsLog log → IsBehind log image → KnowsRows log image → HasPrefix log image
+clear_behind log image is after rows =
     let t = log.trail in
     let p = is.trail.newest in
     let known : (row : List Record) → StandInRow (rest_of image t) t.end.0 t.seq (trail_link t) row → All (IsKnown log) row = λ row stand.
     All-behind (IsKnown log) p.records row
-    (clear.records p.header (p.records ++ row) (newest_still log.anchor image t is.trail after) (whole_row log.anchor image t is.trail after row stand)) in
+    (rows p.header (p.records ++ row) (newest_still log.anchor image t is.trail after) (whole_row log.anchor image t is.trail after row stand)) in
     let among : (x : Record) → IsKnown log x → t.commit.0 < x.commit.0 → Contains log.queued x = λ x own later. elim own [
       | inl found ↦ absurd (omega (arith, is.found x found, later))
       | inr made ↦ is.made x made later
     ] in
     let chain = clear_chain (IsKnown log) (rest_of image t) t.end.0 t.seq (trail_link t) log.queued is.linked among known in
     let made = extended log.anchor image t is.trail after (take chain.0 log.queued) chain.2 (is.tails chain.0 chain.1) in
-    record { count = chain.0; within = chain.1; trail = made.0; is_trail = made.1; extends = made.2 }
+    up_to_record (record { count = chain.0; within = chain.1; trail = made.0; is_trail = made.1; extends = made.2 })
 
 pub anchor_is_clear : (log : Log) → IsLog log → IsClear log log.anchor
 anchor_is_clear log is = record {
@@ -135,14 +139,27 @@ own_tail image t trail =
       left = append-nil t.records;
     }
 
-own_tails : (image : List ℕ) (t : Trail) (trail : IsTrail image t) (j : ℕ) → j ≤ 0 → HasTail image t trail (take j [])
+pub own_tails : (image : List ℕ) (t : Trail) (trail : IsTrail image t) (j : ℕ) → j ≤ 0 → HasTail image t trail (take j [])
 own_tails image t trail zero le = own_tail image t trail
 own_tails image t trail (suc j) le = absurd (omega arith)
 
+-- the tail never goes back
+pub later_tail : (log : Log) → IsLog log → (u : Trail) → trail_link u ≡ last_link (trail_link log.trail) log.queued → log.trail.tail.seq ≤ u.tail.seq
+later_tail log is u last =
+    let t = log.trail in
+    let all : take (length log.queued) log.queued ≡ log.queued = take_all (length log.queued) log.queued (omega arith) in
+    let has : HasTail log.anchor t is.trail log.queued = subst (HasTail log.anchor t is.trail) all (is.tails (length log.queued) (omega arith)) in
+    let tail : t.tail.seq ≡ is.trail.newest.last.tail.seq = ap (λ (l : Link). l.tail.seq) is.trail.last in
+    let now : u.tail.seq ≡ (last_link (trail_link t) log.queued).tail.seq = ap (λ (l : Link). l.tail.seq) last in
+    let seq : t.seq ≡ is.trail.newest.header.seq = is.trail.seq in
+    let joined = is.trail.are_closed.joined in
+    let after = has.joined in
+    omega (arith, ap length has.cut, length-append has.passed has.closed)
+
 -- What is queued stands behind the trail, and is stable.
-pub synced : (log : Log) (image : List ℕ) → IsLog log → IsAfter log image → IsChain (rest_of image log.trail) log.trail.end.0 log.trail.seq (trail_link log.trail) log.queued
+pub synced : (log : Log) (image : List ℕ) → IsLog log → log.next ≡ None → IsBehind log image → IsChain (rest_of image log.trail) log.trail.end.0 log.trail.seq (trail_link log.trail) log.queued
     → (new : Log) × IsSynced log new × (new.anchor ≡ image) × IsLog new
-synced log image is after chain =
+synced log image is steady after chain =
     let t = log.trail in
     let p = is.trail.newest in
     let all : take (length log.queued) log.queued ≡ log.queued = take_all (length log.queued) log.queued (omega arith) in
@@ -154,6 +171,11 @@ synced log image is after chain =
     let new : Log = record log { anchor = image; trail = u; queued = [] } in
     let commit : u.commit.0 ≡ (last_link (trail_link t) log.queued).commit.0 = ap (λ (l : Link). l.commit.0) ext.last in
     let rise : t.commit.0 ≤ (last_link (trail_link t) log.queued).commit.0 = linked_rise t.end.0 t.seq (trail_link t) log.queued is.linked in
+    let known_still : (k : Header) → IsKnownHeader new k → IsKnownHeader log k = λ k own. elim own [
+      | inl found ↦ inl (subst (λ (n : ℕ). HasHeader log.opened n k) ext.segments found)
+      | inr here ↦ inr here
+    ] in
+    let later : t.tail.seq ≤ u.tail.seq = later_tail log is u ext.last in
     let known : All (IsKnown log) (p.records ++ log.queued) = All-append (IsKnown log) p.records log.queued is.records (All-weaker (Contains log.made) (IsKnown log) (λ x own. inr own) log.queued is.queued) in
     let q = u_is.newest in
     let newest : IsNewest image t.segments q.header = subst (λ (n : ℕ). IsNewest image n q.header) ext.segments u_is.is_open.newest in
@@ -161,7 +183,7 @@ synced log image is after chain =
     let row : StandInRow (body_of image p.header.segment) (first_block p.header.segment) p.header.seq (header_link p.header) q.records = subst (λ (k : Header). StandInRow (body_of image k.segment) (first_block k.segment) k.seq (header_link k) q.records) header
     (row_of_chain (body_of image q.header.segment) (first_block q.header.segment) q.header.seq (header_link q.header) q.records u_is.is_open.chain.chain) in (
       new,
-      record { opened = refl; headers = refl; made = refl; trail = ext; queued = refl },
+      record { opened = refl; headers = refl; made = refl; trail = ext; stand = made.3; queued = refl; next = refl },
       refl,
       record {
         trail = u_is;
@@ -175,6 +197,15 @@ synced log image is after chain =
         ];
         records = row_in_chain (IsKnown log) (body_of image p.header.segment) (first_block p.header.segment) p.header.seq (header_link p.header) (p.records ++ log.queued) q.records (whole_chain log.anchor image t is.trail after log.queued chain) row known;
         queued = All-nil (Contains log.made);
+        numbers = λ k own. elim (is.numbers k (known_still k own)) [
+          | inl older ↦ inl (record {
+            upto = omega (arith, older.upto, ext.seq);
+            behind = λ s of. older.behind s (of_before log.anchor image t is.trail after u s k.seq ext.segments ext.seq later of);
+          })
+          | inr next ↦ inr next
+        ];
+        known = record { list = is.known.list; headers = is.known.headers; all = λ k own. is.known.all k (known_still k own) };
+        next = subst (λ (o : Option Header). IfSome o (IsNextHeader new)) (sym steady) tt;
       },
     )
 
@@ -251,6 +282,26 @@ on_trail image t trail =
           (Contains-append_right (records_in trail.closed) (p.records ++ []) r (Contains-append_left p.records [] r own));
     }) p.records (All-contains_itself p.records)
 
+-- a list of headers has each that stands
+headers_all : (image : List ℕ) (from to : ℕ) (hs : List Header) → AreHeaders image from to hs → (k : Header) → from ≤ k.segment → k.segment < to → StandsIn image k → Contains hs k
+headers_all image from to [] all k low high stands = absurd (all k low high stands)
+headers_all image from to (h ∷ hs) all k low high stands =
+    elim (cases_lt k.segment h.segment) [
+      | inl lt ↦ absurd (all.3 k low lt stands)
+      | inr ge ↦ elim (cases_lt h.segment k.segment) [
+        | inl gt ↦ Contains-append_right (h ∷ []) hs k (headers_all image (h.segment + 1) to hs all.4 k (omega arith) high stands)
+        | inr le ↦ (
+            let at : k.segment ≡ h.segment = omega arith in
+            let same : h ≡ k = same_header (block_of image (header_block h.segment)) h k all.2 (subst (λ (s : ℕ). SpellsHeader (block_of image (header_block s)) k) at stands) in
+            subst (Contains (h ∷ hs)) same (Contains-append_left (h ∷ []) hs h (Contains-push [] h))
+            )
+      ]
+    ]
+
+are_headers : (image : List ℕ) (from to : ℕ) (hs : List Header) → AreHeaders image from to hs → All IsHeader hs
+are_headers image from to [] all = All-nil IsHeader
+are_headers image from to (h ∷ hs) all = All-cons IsHeader h hs all.2.header (are_headers image (h.segment + 1) to hs all.4)
+
 pub opened_is : (image : List ℕ) (t : Trail) → IsTrail image t → IsLog (opened image t)
 opened_is image t trail = record {
   trail = trail;
@@ -261,6 +312,22 @@ opened_is image t trail = record {
   headers = λ h has. inl has;
   records = All-weaker (IsOnTrail image) (IsKnown (opened image t)) (λ r on. inl on) trail.newest.records (on_trail image t trail);
   queued = All-nil (Contains []);
+  numbers = λ k own. elim own [
+    | inl has ↦ inl (record {
+      upto = omega (arith, trail.is_open.newest.greatest k has, trail.seq);
+      behind = λ s of. omega (arith, of.numbered.least k has refl, of.here);
+    })
+    | inr made ↦ absurd (omega (arith, made.1))
+  ];
+  known = record {
+    list = t.headers;
+    headers = are_headers image 0 t.segments t.headers trail.headers;
+    all = λ k own. elim own [
+      | inl has ↦ headers_all image 0 t.segments t.headers trail.headers k (omega arith) has.within has.stands
+      | inr made ↦ absurd (omega (arith, made.1))
+    ];
+  };
+  next = tt;
 }
 
 -- ---- one more record waits
@@ -505,8 +572,8 @@ next_tail log r is (stays same) =
 next_tail log r is (at_record x has seq place) = tail_at_record log.anchor log.trail is.trail log.queued r x is.linked has seq place
 next_tail log r is (at_end seq place) = tail_at_end log.anchor log.trail is.trail log.queued r seq place
 
-pub pushed_is : (log : Log) (r : Record) → IsLog log → IsNext (chain_end log.trail.end.0 log.queued) log.trail.seq (last_link (trail_link log.trail) log.queued) r → NamesTail log r.tail → IsLog (pushed log r)
-pushed_is log r is next names =
+pub pushed_is : (log : Log) (r : Record) → IsLog log → IsNext (chain_end log.trail.end.0 log.queued) log.trail.seq (last_link (trail_link log.trail) log.queued) r → NamesTail log r.tail → log.next ≡ None → IsLog (pushed log r)
+pushed_is log r is next names steady =
     let t = log.trail in
     let news = log.queued in
     let tail : HasTail log.anchor t is.trail (news ++ r ∷ []) = next_tail log r is names in
@@ -528,4 +595,7 @@ pushed_is log r is next names =
         | inr made ↦ inr (Contains-append_left log.made (r ∷ []) x made)
       ]) is.trail.newest.records is.records;
       queued = All-push (Contains (log.made ++ r ∷ [])) news r (All-weaker (Contains log.made) (Contains (log.made ++ r ∷ [])) (λ x own. Contains-append_left log.made (r ∷ []) x own) news is.queued) (Contains-push log.made r);
+      numbers = is.numbers;
+      known = record { list = is.known.list; headers = is.known.headers; all = is.known.all };
+      next = subst (λ (o : Option Header). IfSome o (IsNextHeader (pushed log r))) (sym steady) tt;
     }

@@ -18,14 +18,14 @@ use Rattle.sea_journal.specs.Links.{IsNext, Linked, StandInRow}
 
 -- ---- whether a record stands
 
-same_number : (m n : ℕ) → (m ≡ n) ⊎ (m ≡ n → ⊥)
+pub same_number : (m n : ℕ) → (m ≡ n) ⊎ (m ≡ n → ⊥)
 same_number m n =
     elim (cases_lt m n) [
       | inl lt ↦ inr (λ e. omega arith)
       | inr ge ↦ elim (cases_lt n m) [ inl gt ↦ inr (λ e. omega arith) | inr le ↦ inl (omega arith) ]
     ]
 
-same_list : (xs ys : List ℕ) → (xs ≡ ys) ⊎ (xs ≡ ys → ⊥)
+pub same_list : (xs ys : List ℕ) → (xs ≡ ys) ⊎ (xs ≡ ys → ⊥)
 same_list [] [] = inl refl
 same_list [] (y ∷ ys) = inr (λ e. cc)
 same_list (x ∷ xs) [] = inr (λ e. cc)
@@ -52,11 +52,11 @@ stands_or_not bytes r is =
 
 -- ---- which records may stand
 
-at_cons : (r : Record) (rs : List Record) (x : Record) (k : ℕ) → k < length (r ∷ rs) → get_or (r ∷ rs) k x ≡ x → (r ≡ x) ⊎ Contains rs x
+at_cons : {X : Type 0} (r : X) (rs : List X) (x : X) (k : ℕ) → k < length (r ∷ rs) → get_or (r ∷ rs) k x ≡ x → (r ≡ x) ⊎ Contains rs x
 at_cons r rs x zero lt is = inl is
 at_cons r rs x (suc k) lt is = inr (k, omega arith, is)
 
-pub in_cons : (r : Record) (rs : List Record) (x : Record) → Contains (r ∷ rs) x → (r ≡ x) ⊎ Contains rs x
+pub in_cons : {X : Type 0} (r : X) (rs : List X) (x : X) → Contains (r ∷ rs) x → (r ≡ x) ⊎ Contains rs x
 in_cons r rs x has = at_cons r rs x has.0 has.1 has.2
 
 -- of those that go on from a link, each has a greater number

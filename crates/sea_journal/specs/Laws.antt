@@ -2,7 +2,8 @@
 use Rattle.std.specs.Prelude.{List, ℕ}
 use Rattle.sea_journal.specs.Log.{Log, IsLog, IsAfter, IsClear, HasPrefix}
 
--- A clear image of a crash has the trail of what is stable, and then a prefix of what is queued.
+-- A clear image of a crash has the trail of what is stable, and then a prefix of what is queued,
+-- where a header that is being written comes last.
 abbrev pub ClearHasPrefix : Type 0
 ClearHasPrefix = (log : Log) (image : List ℕ) → IsLog log → IsAfter log image → IsClear log image
     → HasPrefix log image

@@ -2,10 +2,13 @@ pub mod Blocks
 pub mod Changes
 pub mod Journal
 pub mod Laws
+pub mod Link
 pub mod Links
 pub mod Log
 pub mod Mkfs
 pub mod Padding
 pub mod Queue
+pub mod Reserve
 pub mod Resume
+pub mod Rolls
 pub mod Room

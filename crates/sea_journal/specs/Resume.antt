@@ -1,5 +1,5 @@
 -- How a journal begins.
-use Rattle.std.specs.Prelude.{◌≡◌, ℕ, ◌+◌, ◌^◌, ◌<◌, ◌≤◌, List, [], length}
+use Rattle.std.specs.Prelude.{◌≡◌, ℕ, ◌+◌, ◌^◌, ◌<◌, ◌≤◌, List, [], length, None}
 use Rattle.sea_base.specs.RootFields.{IsRoot, IsTail}
 use Rattle.sea_base.specs.declared.place.Root.{Root}
 use Rattle.sea_base.specs.declared.place.Tail.{Tail}
@@ -7,17 +7,18 @@ use Rattle.sea_record.specs.Record.{IsOfKind, blocks, listed}
 use Rattle.sea_record.specs.declared.record.Body.{Body}
 use Rattle.sea_record.specs.declared.record.Kind.TheVariants.{Mount}
 use Rattle.sea_record.specs.declared.record.Record.{Record}
-use Rattle.sea_trail.specs.Trail.{first_block, mount_after, segment_end, trail_link}
+use Rattle.sea_trail.specs.Trail.{blocks_needed, first_block, mount_after, segment_end, trail_link}
 use Rattle.sea_trail.specs.declared.link.Link.{Link}
 use Rattle.sea_trail.specs.declared.trail.Trail.{Trail}
 use Rattle.sea_journal.specs.Log.{Log, pushed}
 
--- the open segment is on a device of so many blocks, and has a block left
+-- the segments are on a device of so many blocks, and the open one has a block left
 pub record HasRoom (t : Trail) (size : ℕ) : Type 0 where
-  pub few : t.active ≤ 8190
+  pub few : t.segments ≤ 8191
+  pub active : t.active < t.segments
   pub from : first_block t.active ≤ t.end.0
   pub rest : t.end.0 < segment_end t.active
-  pub room : segment_end t.active ≤ size
+  pub room : blocks_needed t.segments ≤ size
 
 -- no number is used up
 pub record HasNumbers (t : Trail) : Type 0 where
@@ -66,7 +67,7 @@ mount_record t = record_behind t.end.0 t.seq (trail_link t) mount_body t.tail t.
 -- the past of a journal that begins
 abbrev pub opened : List ℕ → Trail → Log
 opened image t =
-    record { opened = image; headers = []; made = []; anchor = image; trail = t; queued = [] }
+    record { opened = image; headers = []; made = []; anchor = image; trail = t; queued = []; next = None }
 
 -- and once its mount record waits
 abbrev pub mounted : List ℕ → Trail → Log

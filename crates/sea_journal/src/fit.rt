@@ -6,15 +6,15 @@ ghost use Rattle.sea_journal.specs.Resume.{CanResume, HasFields, HasNumbers, Has
 use crate::SEGMENT_BLOCKS;
 use sea_base::{PRoot, Root, Tail};
 use sea_segment::MAX_SEGMENTS;
-use sea_trail::{Trail, first_block};
+use sea_trail::{Trail, blocks_needed, first_block};
 
 const END_OF_NUMBERS: u64 = 1 << 63;
 
 // A number that is no less is used up.
 const END_OF_USE: u64 = 1 << 62;
 
-/// Whether a journal can go on behind this trail on a device of so many blocks: its open segment has a
-/// block left, and none of its numbers is used up.
+/// Whether a journal can go on behind this trail on a device of so many blocks: its open segment
+/// has a block left, and none of its numbers is used up.
 pub fn can_resume(trail: &Trail, blocks: u32) -> bool
     ensures { IsTrue result ↔ CanResume trail.now blocks }
 {
@@ -28,16 +28,16 @@ fn has_fields(trail: &Trail) -> bool
     is_tail(&trail.tail) && is_root(&trail.root)
 }
 
-// Whether the open segment is on the device, and has a block left.
+// Whether the segments are on the device, and the open one has a block left.
 fn has_room(trail: &Trail, blocks: u32) -> bool
     ensures { IsTrue result ↔ HasRoom trail.now blocks }
 {
-    if trail.active >= MAX_SEGMENTS {
+    if trail.segments > MAX_SEGMENTS || trail.active >= trail.segments {
         return false;
     }
     let first = first_block(trail.active);
     let end = first + (SEGMENT_BLOCKS - 1);
-    first <= trail.end.0 && trail.end.0 < end && end <= blocks
+    first <= trail.end.0 && trail.end.0 < end && blocks_needed(trail.segments) <= blocks
 }
 
 // Whether none of its numbers is used up.

@@ -1,17 +1,22 @@
 //! The journal of a store over a device.
-ghost use Rattle.std.specs.Prelude.{◌≡◌, ◌≤◌, IfOk};
-ghost use Rattle.sea_trail.specs.Trail.{segment_end as end_of};
+ghost use Rattle.std.specs.Prelude.{◌≡◌, ◌<◌, ◌≤◌, length, IfOk, IfSome};
+ghost use Rattle.std.proofs.Props.{props};
+ghost use Rattle.sea_trail.specs.Trail.{blocks_needed, segment_end as end_of};
 ghost use Rattle.sea_journal.specs.Resume.{mount_body};
 
+use crate::SEGMENT_BLOCKS;
+use crate::put::put_blocks;
 use crate::queue::Queue;
+use crate::roll::Roll;
+use crate::room::{Who, takes};
 use sea_base::{
     BLOCK_BYTES, Block, Commit, Data, NoMemory, Paddr, Root, Sequence, SpaceFault, Sum, Tail,
     sum_of,
 };
 use sea_device::{Device, Failed};
 use sea_record::{Body, Kind};
-use sea_segment::Table;
-use sea_trail::Trail;
+use sea_segment::{SegState, Table};
+use sea_trail::{Trail, header_block};
 use std::alloc::Global;
 use thiserror::Error;
 
@@ -26,30 +31,54 @@ pub enum ResumeFault {
     DeviceFault,
 }
 
-/// A journal: records go one behind the other into the open segment of a device. They are queued by
-/// `push`, and written and made stable by `sync`.
+/// Why no place was reserved.
+#[derive(Clone, Copy, Debug, PartialEq, Eq, Error)]
+pub enum ReserveFault {
+    /// The rule of room takes no record of so many blocks.
+    #[error("no room for {need} blocks: {rest} left, {empty} segments empty")]
+    NoRoom { need: u32, rest: u32, empty: u32 },
+    /// A call of the device failed.
+    #[error("device fault")]
+    DeviceFault,
+    /// Memory ran out.
+    #[error("no memory")]
+    NoMemory,
+}
+
+/// A journal: records go one behind the other into the open segment of a device. `reserve` finds
+/// room for the next one, `push` queues it, and `sync` writes what is queued and makes it stable.
 #[derive(Debug, Drop)]
 pub struct Journal<D: Device> {
     device: D,
     table: Table,
     queue: Queue,
+    // The header of a segment that is being opened.
+    roll: Option<Roll>,
     ghost room: { end_of queue.active ≤ D.size device },
+    ghost few: { length table ≤ 8191 },
+    ghost fits: { blocks_needed (length table) ≤ D.size device },
+    ghost open: { queue.active < length table },
+    ghost next: { IfSome roll (λ r. r.header.segment < length table) } by { Prim.hlevel props },
 }
 
 impl<D: Device> Journal<D> {
-    ghost use Rattle.std.specs.Prelude.{ℕ, ◌+◌, ◌-◌, ◌*◌, ◌<◌, List, Some, IfErr, IfSome, IsOk, OnOk, OnErr, MatchResult, length};
+    ghost use Rattle.std.specs.Prelude.{ℕ, ◌+◌, ◌-◌, ◌*◌, ◌^◌, List, Some, None, IfErr, IsOk, OnOk, OnErr, MatchResult};
     ghost use Rattle.sea_device.specs.Device.{Torn};
     ghost use Rattle.sea_base.specs.Faults.{FaultsRose};
     ghost use Rattle.sea_record.specs.Record.{IsRecord, blocks};
-    ghost use Rattle.sea_segment.specs.Table.{empty_of, live_of, with_live};
-    ghost use Rattle.sea_trail.specs.Trail.{IsTrail, block_of};
+    ghost use Rattle.sea_segment.specs.State.{IsClosedBefore};
+    ghost use Rattle.sea_segment.specs.Table.{IsEmpty, empty_of, live_of, state_of, with_live, with_state};
+    ghost use Rattle.sea_segment.specs.declared.state.SegState.TheVariants.{Empty};
+    ghost use Rattle.sea_trail.specs.Trail.{IsTrail, block_of, first_block as first, header_block as header_of};
     ghost use Rattle.sea_device.specs.Calls.{OnlyRead};
     ghost use Rattle.sea_journal.specs.Blocks.{IsNotGiven, IsSumOf, IsUnread, image_now};
     ghost use Rattle.sea_journal.specs.Changes.{ChangesBy, CountsFaults};
     ghost use Rattle.sea_journal.specs.Journal.{HasLog, CrashesKeep, IsBegun, BlamesRightly};
     ghost use Rattle.sea_journal.specs.Queue.{BeginsBehind};
-    ghost use Rattle.sea_journal.specs.Log.{Log, IsSynced, NamesTail, pushed};
-    ghost use Rattle.sea_journal.specs.Resume.{CanResume, record_behind, mount_record, mounted};
+    ghost use Rattle.sea_journal.specs.Log.{Log, HasNoneAt, IsClear, IsSynced, NamesTail, pushed};
+    ghost use Rattle.sea_journal.specs.Reserve.{Begins, ComesTo, IsFinishedBy, IsReady, IsRollFault, IsSame, IsUnready, Keeps, TakesIn};
+    ghost use Rattle.sea_journal.specs.Resume.{CanResume, record_behind, mount_record, mounted, opened};
+    ghost use Rattle.sea_journal.specs.Rolls.{BeginsAt, InTable, rest_of, seq_of};
 
     /// Goes on behind the trail of a device, which was synced before it was read: writes a mount
     /// record and syncs it. Where it fails it hands the device back.
@@ -59,14 +88,17 @@ impl<D: Device> Journal<D> {
         trail: &Trail,
         table: Table,
     ) -> Result<Journal<D>, (D, ResumeFault)>
-        requires { CanResume trail.now (D.size device) }
+        requires can { CanResume trail.now (D.size device) }
+        requires table { length table ≡ trail.now.segments }
         ensures begun { (image : List ℕ) → D.contents device ≡ Some image → IsTrail image trail.now
             → ((c : List ℕ) → D.may_leave device c → c ≡ image)
+            → InTable (opened image trail.now) table
             → IfOk result (λ j. IsBegun D.Device image trail.now j) }
         // A clear image of a crash within the call has the trail that was found, and then the mount
         // record or not.
         ensures crash { (image : List ℕ) → D.contents device ≡ Some image → IsTrail image trail.now
             → ((c : List ℕ) → D.may_leave device c → c ≡ image)
+            → InTable (opened image trail.now) table
             → MatchResult result
             (λ j. CrashesKeep D.Device (mounted image trail.now) device j.device)
             (λ e. CrashesKeep D.Device (mounted image trail.now) device e.0) }
@@ -77,6 +109,7 @@ impl<D: Device> Journal<D> {
             device,
             table,
             queue,
+            roll: None,
         };
         if journal.push_mount(alloc, trail).is_err() {
             return Err((journal.close(), ResumeFault::NoMemory));
@@ -90,6 +123,7 @@ impl<D: Device> Journal<D> {
     // Queues the mount record behind a trail.
     fn push_mount(&mut self, alloc: Global, trail: &Trail) -> Result<(), NoMemory>
         requires can { CanResume trail.now (D.size self.old.device) }
+        requires ready { self.old.roll ≡ None }
         requires behind { BeginsBehind trail.now self.old.queue }
         ensures ok { (log : Log) → HasLog D.Device log self.old → NamesTail log trail.now.tail
             → OnOk result (HasLog D.Device (pushed log (mount_record trail.now)) self.new) }
@@ -102,13 +136,120 @@ impl<D: Device> Journal<D> {
 
     /// How many blocks of the open segment are left.
     pub fn rest(&self) -> u32
-        ensures { result + self.now.queue.place.0 ≡ end_of self.now.queue.active }
+        ensures { result ≡ rest_of self.now.roll self.now.queue }
     {
-        self.queue.rest()
+        match &self.roll {
+            Some(_) => SEGMENT_BLOCKS - 1,
+            None => self.queue.rest(),
+        }
     }
 
-    /// Queues the record with this body, which is no larger than the rest, and answers its number.
+    /// The place of the next record, which has at most so many blocks. Where they don't fit it
+    /// syncs what is queued, and opens the least empty segment. That a call of the device failed in
+    /// has begun, and is finished by the next call.
+    pub fn reserve(&mut self, need: u32, who: Who) -> Result<Paddr, ReserveFault>
+        requires need { need ≤ 1024 }
+        requires number { seq_of self.old.roll self.old.queue < 2 ^ 62 + 2 ^ 49 }
+        ensures log { (log : Log) → HasLog D.Device log self.old
+            → (next : Log) × ComesTo D.Device self.old self.new log next }
+        ensures place { IfOk result (λ at. IsReady need at.0 self.old self.new) }
+        ensures taken { IsOk result → TakesIn who need self.old }
+        ensures fault { IfErr result (IsUnready who need (D.faults self.old.device)
+            (D.faults self.new.device) self.old) }
+    {
+        if self.finish().is_err() {
+            return Err(ReserveFault::DeviceFault);
+        }
+        let rest = self.queue.rest();
+        let empty = self.table.empty();
+        if !takes(who, need, rest, empty) {
+            return Err(ReserveFault::NoRoom { need, rest, empty });
+        }
+        if need <= rest {
+            return Ok(self.queue.place);
+        }
+        let Some(segment) = self.table.pick_empty() else {
+            return Err(ReserveFault::NoRoom { need, rest, empty });
+        };
+        self.roll(segment)?;
+        Ok(self.queue.place)
+    }
+
+    // Makes stable what is queued, and opens this segment behind it.
+    fn roll(&mut self, segment: u32) -> Result<(), ReserveFault>
+        requires none { self.old.roll ≡ None }
+        requires some { first self.old.queue.active < self.old.queue.place.0 }
+        requires empty { IsEmpty self.old.table segment }
+        requires number { self.old.queue.seq < 2 ^ 62 + 2 ^ 49 }
+        ensures log { (log : Log) → HasLog D.Device log self.old
+            → (next : Log) × ComesTo D.Device self.old self.new log next }
+        ensures opened { OnOk result ((self.new.roll ≡ None)
+            × (self.new.queue.active ≡ segment) × (self.new.queue.place.0 ≡ first segment)) }
+        ensures fault { IfErr result (λ fault. IsRollFault (D.faults self.old.device)
+            (D.faults self.new.device) fault) }
+    {
+        if self.sync().is_err() {
+            return Err(ReserveFault::DeviceFault);
+        }
+        if self.begin(segment).is_err() {
+            return Err(ReserveFault::NoMemory);
+        }
+        if self.finish().is_err() {
+            return Err(ReserveFault::DeviceFault);
+        }
+        Ok(())
+    }
+
+    // Begins to open this segment, of which nothing is written yet.
+    fn begin(&mut self, segment: u32) -> Result<(), NoMemory>
+        requires none { self.old.roll ≡ None }
+        requires empty { IsEmpty self.old.table segment }
+        requires number { self.old.queue.seq < 2 ^ 62 + 2 ^ 49 }
+        ensures ok { OnOk result (Begins segment self.old self.new) }
+        ensures err { OnErr result (self.new ≡ self.old) }
+        ensures device { self.new.device ≡ self.old.device }
+        ensures queue { self.new.queue ≡ self.old.queue }
+    {
+        let alloc = *self.queue.bytes.allocator();
+        let roll = Roll::new(alloc, segment, self.queue.seq, &self.queue.link)?;
+        let closed = SegState::Closed {
+            seq: self.queue.seq,
+        };
+        self.table.set(self.queue.active, closed);
+        let seq = roll.header.seq;
+        self.table.set(segment, SegState::Active { seq });
+        self.roll = Some(roll);
+        Ok(())
+    }
+
+    // Writes the header of the segment that is being opened and syncs it; then records go on there.
+    fn finish(&mut self) -> Result<(), Failed>
+        ensures idle { self.old.roll ≡ None → (result ≡ Ok tt) × IsSame self.old self.new }
+        ensures opened { OnOk result ((self.new.roll ≡ None)
+            × IfSome self.old.roll (λ roll. BeginsAt roll.header self.new.queue)) }
+        ensures ok { (log : Log) → HasLog D.Device log self.old → OnOk result ((next : Log)
+            × HasLog D.Device next self.new × IsFinishedBy self.old.roll log next) }
+        ensures err { (log : Log) → HasLog D.Device log self.old
+            → OnErr result (HasLog D.Device log self.new) }
+        ensures table { self.new.table ≡ self.old.table }
+        ensures changes { IfSome self.old.roll (λ roll. ChangesBy
+            (Torn (4096 * header_of roll.header.segment) 4096) D.Device
+            self.old.device self.new.device) }
+        ensures cause { CountsFaults (D.faults self.old.device) (D.faults self.new.device) result }
+    {
+        let Some(roll) = &self.roll else {
+            return Ok(());
+        };
+        let at = Paddr(header_block(roll.header.segment));
+        put_blocks(&mut self.device, at, roll.block.bytes())?;
+        self.queue.open(roll);
+        self.roll = None;
+        Ok(())
+    }
+
+    /// Queues the record with this body at the reserved place, and answers its number.
     pub fn push(&mut self, body: Body, tail: Tail, root: Root) -> Result<Commit, NoMemory>
+        requires ready { self.old.roll ≡ None }
         requires is_record { IsRecord (record_behind self.old.queue.place.0 self.old.queue.seq
             self.old.queue.link body tail root) }
         requires room { self.old.queue.place.0 + blocks body ≤ end_of self.old.queue.active }
@@ -139,12 +280,14 @@ impl<D: Device> Journal<D> {
             (4096 * (end_of self.old.queue.active - self.old.queue.start.0))) D.Device
             self.old.device self.new.device }
         ensures cause { CountsFaults (D.faults self.old.device) (D.faults self.new.device) result }
+        ensures keeps { Keeps self.old self.new × OnOk result
+            (self.new.queue.start ≡ self.new.queue.place) }
     {
         self.queue.write(&mut self.device)
     }
 
-    /// The block at a place, from the queue where a queued record covers it, else from the device. It
-    /// is damaged where its sum isn't the one that was kept of it.
+    /// The block at a place, from the queue where a queued record covers it, else from the device.
+    /// It is damaged where its sum isn't the one that was kept of it.
     pub fn block(&mut self, at: Paddr, sum: Sum) -> Result<Block, SpaceFault>
         requires { at.0 < D.size self.old.device }
         ensures block { IfOk result (λ block. IfSome (D.contents self.old.device) (λ image.
@@ -153,7 +296,8 @@ impl<D: Device> Journal<D> {
         ensures fault { IfErr result (IsNotGiven self.old.queue (D.contents self.old.device) at.0
             sum.0 (D.faults self.old.device) (D.faults self.new.device)) }
         ensures read { OnlyRead D.Device self.old.device self.new.device }
-        ensures queue { self.new.queue ≡ self.old.queue }
+        ensures others { (self.new.queue ≡ self.old.queue) × (self.new.table ≡ self.old.table)
+            × (self.new.roll ≡ self.old.roll) }
         ensures log { (log : Log) → HasLog D.Device log self.old → HasLog D.Device log self.new }
     {
         let block = self.read(at)?;
@@ -176,7 +320,8 @@ impl<D: Device> Journal<D> {
         ensures fault { IfErr result (IsUnread (D.faults self.old.device) (D.faults self.new.device)) }
         ensures still { IsOk result → D.faults self.new.device ≡ D.faults self.old.device }
         ensures read { OnlyRead D.Device self.old.device self.new.device }
-        ensures queue { self.new.queue ≡ self.old.queue }
+        ensures others { (self.new.queue ≡ self.old.queue) × (self.new.table ≡ self.old.table)
+            × (self.new.roll ≡ self.old.roll) }
     {
         let alloc = *self.queue.bytes.allocator();
         if let Some(bytes) = self.queue.block(at) {
@@ -218,6 +363,13 @@ impl<D: Device> Journal<D> {
         self.queue.link.commit
     }
 
+    /// The tail of the last record, a queued one too.
+    pub fn tail(&self) -> Tail
+        ensures { result ≡ self.now.queue.link.tail }
+    {
+        self.queue.link.tail
+    }
+
     /// The mount number of the last record, a queued one too.
     pub fn mount(&self) -> u64
         ensures { result ≡ self.now.queue.link.mount }
@@ -227,9 +379,12 @@ impl<D: Device> Journal<D> {
 
     /// The sequence number of the open segment.
     pub fn seq(&self) -> u64
-        ensures { result ≡ self.now.queue.seq }
+        ensures { result ≡ seq_of self.now.roll self.now.queue }
     {
-        self.queue.seq
+        match &self.roll {
+            Some(roll) => roll.header.seq,
+            None => self.queue.seq,
+        }
     }
 
     /// Counts one more live block of a segment.
@@ -238,7 +393,9 @@ impl<D: Device> Journal<D> {
         requires room { live_of self.old.table segment < 2047 }
         ensures table { self.new.table
             ≡ with_live self.old.table segment (live_of self.old.table segment + 1) }
-        ensures others { (self.new.queue ≡ self.old.queue) × (self.new.device ≡ self.old.device) }
+        ensures others { (self.new.queue ≡ self.old.queue) × (self.new.device ≡ self.old.device)
+            × (self.new.roll ≡ self.old.roll) }
+        ensures log { (log : Log) → HasLog D.Device log self.old → HasLog D.Device log self.new }
     {
         self.table.add_live(segment);
     }
@@ -249,9 +406,30 @@ impl<D: Device> Journal<D> {
         requires some { 0 < live_of self.old.table segment }
         ensures table { self.new.table
             ≡ with_live self.old.table segment (live_of self.old.table segment - 1) }
-        ensures others { (self.new.queue ≡ self.old.queue) × (self.new.device ≡ self.old.device) }
+        ensures others { (self.new.queue ≡ self.old.queue) × (self.new.device ≡ self.old.device)
+            × (self.new.roll ≡ self.old.roll) }
+        ensures log { (log : Log) → HasLog D.Device log self.old → HasLog D.Device log self.new }
     {
         self.table.take_live(segment);
+    }
+
+    /// Makes a segment empty, so that it may be opened again. It is closed, no block of it is live,
+    /// its sequence number is below the tail's, and nothing is queued.
+    pub fn free(&mut self, segment: u32)
+        requires within { segment < length self.old.table }
+        requires closed { IsClosedBefore (state_of self.old.table segment)
+            self.old.queue.link.tail.seq }
+        requires dead { live_of self.old.table segment ≡ 0 }
+        requires idle { self.old.queue.place.0 ≡ self.old.queue.start.0 }
+        ensures table { self.new.table ≡ with_state self.old.table segment Empty }
+        ensures others { (self.new.queue ≡ self.old.queue) × (self.new.device ≡ self.old.device)
+            × (self.new.roll ≡ self.old.roll) }
+        ensures log { (log : Log) → HasLog D.Device log self.old → HasLog D.Device log self.new }
+        // No clear image that a crash may leave has a segment of its trail there.
+        ensures left { (log : Log) → HasLog D.Device log self.old → (c : List ℕ)
+            → D.may_leave self.new.device c → IsClear log c → HasNoneAt segment c }
+    {
+        self.table.set(segment, SegState::Empty);
     }
 
     /// Hands the device back.
@@ -262,6 +440,7 @@ impl<D: Device> Journal<D> {
             device,
             table: _,
             queue: _,
+            roll: _,
         } = self;
         device
     }

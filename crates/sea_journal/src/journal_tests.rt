@@ -4,10 +4,10 @@ ghost use Rattle.sea_journal.specs.Resume.{IsBare};
 
 use super::*;
 use crate::fit::{is_root, is_tail};
-use sea_base::{Commit, Data, NoMemory, Nths, Paddr, Sequence, SpaceFault, Sum};
+use sea_base::{Commit, Data, NoMemory, Nths, Paddr, Root, Sequence, SpaceFault, Sum, Tail};
 use sea_device::{Device, Failed, Fails, MemDevice};
 use sea_record::{Body, Kind};
-use sea_segment::Table;
+use sea_segment::{SegState, Table};
 use sea_trail::{Trail, scan};
 use std::alloc::Global;
 use std::process::Abort;
@@ -26,7 +26,7 @@ fn fresh(alloc: Global, failing: u64) -> Result<MemDevice, Fail>
     let mut syncs = Nths::new(alloc);
     syncs.push(failing + 2)?;
     fails.syncs = syncs;
-    let mut device = MemDevice::new(alloc, BLOCKS, 64, 1 << 20, fails)?;
+    let mut device = MemDevice::new(alloc, BLOCKS, 64, 1 << 24, fails)?;
     mkfs(alloc, &mut device, 6)?;
     Ok(device)
 }
@@ -39,7 +39,9 @@ fn begun(
 ) -> Result<(Journal<MemDevice>, Trail), Fail> {
     let trail = scan(alloc, &mut device)?;
     assert!(rt; can_resume(&trail, device.blocks()));
-    let table = Table::new(alloc, trail.segments)?;
+    let mut table = Table::new(alloc, trail.segments)?;
+    assert!(rt; trail.active < table.len());
+    table.set(trail.active, SegState::Active { seq: trail.seq });
     match Journal::resume(alloc, device, &trail, table) {
         Ok(journal) => Ok((journal, trail)),
         Err((_device, fault)) => Err(fault.into()),
@@ -74,17 +76,20 @@ fn bare(alloc: Global) -> Result<Body, NoMemory>
     })
 }
 
-// Queues a record with the tail and the roots of a trail.
+// Queues a record with this tail and these roots, once a place for it is reserved.
 fn push(
     rt: &impl Abort,
     journal: &mut Journal<MemDevice>,
-    trail: &Trail,
+    tail: Tail,
+    root: Root,
     body: Body,
-) -> Result<Commit, NoMemory>
+) -> Result<Commit, Fail>
     requires { IsBare body }
 {
-    assert!(rt; is_tail(&trail.tail));
-    assert!(rt; is_root(&trail.root));
+    assert!(rt; is_tail(&tail));
+    assert!(rt; is_root(&root));
+    assert!(rt; journal.seq() < LIMIT);
+    journal.reserve(2, Who::House)?;
     let mount = journal.mount();
     assert!(rt; mount >= 1);
     assert!(rt; mount < LIMIT);
@@ -93,8 +98,7 @@ fn push(
     assert!(rt; seq < LIMIT);
     let last = journal.commit();
     assert!(rt; last.0 < LIMIT);
-    assert!(rt; journal.rest() >= 2);
-    journal.push(body, trail.tail, trail.root)
+    Ok(journal.push(body, tail, root)?)
 }
 
 // Makes unsynced blocks what they were before, zeros, as a crash may leave them.
@@ -124,9 +128,21 @@ fn counts(alloc: Global, device: &mut MemDevice) -> Result<(u64, u64, u32), Fail
 // Behind the mount record at block 2 records wait at the blocks 3, 4 and 6, whose sync fails.
 fn unsynced(rt: &impl Abort, alloc: Global) -> Result<MemDevice, Fail> {
     let (mut journal, trail) = begun(rt, alloc, fresh(alloc, 2)?)?;
-    push(rt, &mut journal, &trail, bare(alloc)?)?;
-    push(rt, &mut journal, &trail, plain(alloc, b"one")?)?;
-    push(rt, &mut journal, &trail, plain(alloc, b"two")?)?;
+    push(rt, &mut journal, trail.tail, trail.root, bare(alloc)?)?;
+    push(
+        rt,
+        &mut journal,
+        trail.tail,
+        trail.root,
+        plain(alloc, b"one")?,
+    )?;
+    push(
+        rt,
+        &mut journal,
+        trail.tail,
+        trail.root,
+        plain(alloc, b"two")?,
+    )?;
     assert_eq!(rt; journal.sync(), Err(Failed));
     assert_eq!(rt; journal.unsynced(), 3);
     Ok(journal.close())
@@ -144,8 +160,8 @@ fn a_batch_with_a_gap(rt: HostRuntime) -> Result<(), Fail> {
     Ok(())
 }
 
-// The first record is lost, and the second stands. The next opening writes its mount record where the
-// first was, and its zeros over the second's first block, which a crash takes back.
+// The first record is lost, and the second stands. The next opening writes its mount record where
+// the first was, and its zeros over the second's first block, which a crash takes back.
 #[test]
 fn a_stale_record_behind_a_torn_zero_block(rt: HostRuntime) -> Result<(), Fail> {
     let alloc = rt.alloc();
@@ -169,14 +185,26 @@ fn a_failed_sync_is_made_again(rt: HostRuntime) -> Result<(), Fail> {
     let (mut journal, trail) = begun(&rt, alloc, fresh(alloc, 2)?)?;
     assert_eq!(rt; journal.sync(), Ok(()));
     assert_eq!(rt;
-        push(&rt, &mut journal, &trail, plain(alloc, b"one")?)?,
+        push(
+            &rt,
+            &mut journal,
+            trail.tail,
+            trail.root,
+            plain(alloc, b"one")?
+        )?,
         Commit(2)
     );
     let queued = sum_behind(&mut journal);
     assert!(rt; queued != Sum(0));
     assert_eq!(rt; journal.sync(), Err(Failed));
     assert_eq!(rt;
-        push(&rt, &mut journal, &trail, plain(alloc, b"two")?)?,
+        push(
+            &rt,
+            &mut journal,
+            trail.tail,
+            trail.root,
+            plain(alloc, b"two")?
+        )?,
         Commit(3)
     );
     assert_eq!(rt; journal.sync(), Ok(()));
@@ -184,5 +212,89 @@ fn a_failed_sync_is_made_again(rt: HostRuntime) -> Result<(), Fail> {
     assert_eq!(rt; sum_behind(&mut journal), queued);
     let mut device = journal.close();
     assert_eq!(rt; counts(alloc, &mut device)?, (1, 3, 7));
+    Ok(())
+}
+
+// Queues records of 1,024 blocks together.
+fn fill(
+    rt: &impl Abort,
+    alloc: Global,
+    journal: &mut Journal<MemDevice>,
+    tail: Tail,
+    root: Root,
+) -> Result<(), Fail> {
+    for _ in 0..512 {
+        push(rt, journal, tail, root, plain(alloc, b"any")?)?;
+    }
+    Ok(())
+}
+
+// Reserves a place for a record of 1,024 blocks.
+fn reserve(rt: &impl Abort, journal: &mut Journal<MemDevice>) -> Result<Paddr, ReserveFault> {
+    assert!(rt; journal.seq() < LIMIT);
+    journal.reserve(1024, Who::House)
+}
+
+// The sync of the header fails: the header may stand or not, and the next call writes it again.
+#[test]
+fn a_crash_in_the_middle_of_a_roll(rt: HostRuntime) -> Result<(), Fail> {
+    let alloc = rt.alloc();
+    let (mut journal, trail) = begun(&rt, alloc, fresh(alloc, 3)?)?;
+    fill(&rt, alloc, &mut journal, trail.tail, trail.root)?;
+    assert_eq!(rt; reserve(&rt, &mut journal), Err(ReserveFault::DeviceFault));
+    assert_eq!(rt;
+        (journal.seq(), journal.rest(), journal.empty()),
+        (2, 2047, 4)
+    );
+    assert_eq!(rt; journal.sync(), Ok(()));
+    let mut device = journal.close();
+    assert_eq!(rt; counts(alloc, &mut device)?, (1, 513, 2050));
+    lose(&rt, &mut device, &[2049])?;
+    assert_eq!(rt; counts(alloc, &mut device)?, (1, 513, 1027));
+    Ok(())
+}
+
+#[test]
+fn a_failed_roll_is_finished(rt: HostRuntime) -> Result<(), Fail> {
+    let alloc = rt.alloc();
+    let (mut journal, trail) = begun(&rt, alloc, fresh(alloc, 3)?)?;
+    fill(&rt, alloc, &mut journal, trail.tail, trail.root)?;
+    assert_eq!(rt; reserve(&rt, &mut journal), Err(ReserveFault::DeviceFault));
+    assert_eq!(rt; reserve(&rt, &mut journal), Ok(Paddr(2050)));
+    assert_eq!(rt;
+        push(&rt, &mut journal, trail.tail, trail.root, bare(alloc)?)?,
+        Commit(514)
+    );
+    assert_eq!(rt; journal.sync(), Ok(()));
+    let mut device = journal.close();
+    assert_eq!(rt; counts(alloc, &mut device)?, (1, 514, 2051));
+    Ok(())
+}
+
+// The tail moves on to the second segment, the first is freed, and once the second is full it is
+// opened again.
+#[test]
+fn a_freed_segment_is_used_again(rt: HostRuntime) -> Result<(), Fail> {
+    let alloc = rt.alloc();
+    let (mut journal, trail) = begun(&rt, alloc, fresh(alloc, 9)?)?;
+    fill(&rt, alloc, &mut journal, trail.tail, trail.root)?;
+    let place = reserve(&rt, &mut journal)?;
+    let tail = Tail { seq: 2, place };
+    fill(&rt, alloc, &mut journal, tail, trail.root)?;
+    journal.sync()?;
+    assert_eq!(rt; journal.empty(), 4);
+    assert!(rt; journal.table().len() > 0);
+    assert!(rt;
+        journal
+            .table()
+            .state(0)
+            .is_closed_before(journal.tail().seq)
+    );
+    assert!(rt; journal.table().live(0) == 0);
+    journal.free(0);
+    assert_eq!(rt; journal.empty(), 5);
+    assert_eq!(rt; reserve(&rt, &mut journal), Ok(Paddr(2)));
+    let mut device = journal.close();
+    assert_eq!(rt; counts(alloc, &mut device)?, (1, 1025, 2));
     Ok(())
 }

@@ -8,11 +8,12 @@ mod journal;
 mod law;
 mod put;
 mod queue;
+mod roll;
 mod room;
 
 pub use fit::can_resume;
 pub use fresh::{MkfsFault, mkfs};
-pub use journal::{Journal, ResumeFault};
+pub use journal::{Journal, ReserveFault, ResumeFault};
 pub use law::journal_laws;
 pub use room::{Who, takes};
 

@@ -1,14 +1,16 @@
 //! Records that wait to be written behind a trail.
 ghost use Rattle.std.specs.Prelude.{◌≡◌, ◌+◌, ◌-◌, ◌≤◌, length, vec_len};
 ghost use Rattle.sea_trail.specs.Trail.{first_block as first, segment_end as end_of, trail_link};
+ghost use Rattle.sea_journal.specs.Link.{IsLink};
 ghost use Rattle.sea_journal.specs.Padding.{padded};
 
 use crate::SEGMENT_BLOCKS;
 use crate::put::put_blocks;
+use crate::roll::Roll;
 use sea_base::{BLOCK_BYTES, Commit, Digest, NoMemory, Paddr, Root, Tail, put_bytes};
 use sea_device::{Device, Failed};
 use sea_record::{Body, Kind, Record, digest_in, encode, size};
-use sea_trail::{Link, Trail, header_block};
+use sea_trail::{Link, Trail, first_block, header_block};
 use std::alloc::Global;
 
 /// Records that wait to be written in the open segment.
@@ -34,7 +36,7 @@ pub struct Queue {
     ghost within: { place.0 ≤ end_of active },
     ghost padded: { vec_len bytes ≡ padded (place.0 - start.0) },
     ghost counted: { count ≤ place.0 - start.0 },
-    ghost digest: { length link.digest.0 ≡ 32 },
+    ghost linked: { IsLink link },
 }
 
 impl Queue {
@@ -45,13 +47,16 @@ impl Queue {
     ghost use Rattle.sea_journal.specs.Changes.{ChangesBy, CountsFaults};
     ghost use Rattle.sea_journal.specs.Log.{Log, pushed};
     ghost use Rattle.sea_journal.specs.Queue.{Waits, BeginsBehind, IsEmptied, IsWritten, batch};
-    ghost use Rattle.sea_journal.specs.Resume.{CanResume, opened, record_behind};
+    ghost use Rattle.sea_journal.specs.Resume.{HasFields, HasNumbers, opened, record_behind};
+    ghost use Rattle.sea_journal.specs.Rolls.{BeginsAt};
 
     /// None waits behind a trail.
     pub fn behind(alloc: Global, trail: &Trail) -> Queue
         requires few { trail.now.active ≤ 8190 }
         requires from { first trail.now.active ≤ trail.now.end.0 }
         requires within { trail.now.end.0 ≤ end_of trail.now.active }
+        requires numbers { HasNumbers trail.now }
+        requires fields { HasFields trail.now }
         ensures waits { (image : List ℕ) → Waits (opened image trail.now) result }
         ensures begins { BeginsBehind trail.now result }
     {
@@ -64,6 +69,21 @@ impl Queue {
             bytes: Vec::new(alloc),
             count: 0,
         }
+    }
+
+    /// Goes on behind the header of a segment that is open now, with nothing.
+    pub fn open(&mut self, roll: &Roll)
+        requires { roll.now.header.segment ≤ 8190 }
+        ensures { BeginsAt roll.now.header self.new }
+    {
+        let first = Paddr(first_block(roll.header.segment));
+        self.bytes.clear();
+        self.active = roll.header.segment;
+        self.seq = roll.header.seq;
+        self.start = first;
+        self.place = first;
+        self.link = roll.link();
+        self.count = 0;
     }
 
     /// How many blocks of the open segment are left.

@@ -1,4 +1,5 @@
-use Rattle.sea_journal.proofs.Pasts.{anchor_is_clear, clear_has_prefix}
+use Rattle.sea_journal.proofs.Openings.{clear_has_prefix}
+use Rattle.sea_journal.proofs.Pasts.{anchor_is_clear}
 use Rattle.sea_journal.proofs.law.journal_laws.Goals as goal
 
 pub returns-clause-prefix : goal.returns-clause-prefix

@@ -25,16 +25,23 @@ invariant_of-self-2-clause-padded c =
     let size : c.size.result ≡ blocks c.args.body = c.size.ensures ∙ ap (λ (x : Record). blocks x.body) c.next_record-entry.ensures in
     omega (arith, c.in_ok-resize.ensures.len, c.record_bytes-at.ensures, c.len.ensures.value, padded-some (q.place.0 + c.size.result - q.start.0) (omega arith))
 
-pub invariant_of-self-2-clause-digest : goal.invariant_of-self-2-clause-digest
-invariant_of-self-2-clause-digest c =
+pub invariant_of-self-2-clause-linked : goal.invariant_of-self-2-clause-linked
+invariant_of-self-2-clause-linked c =
     let q = c.args.self.now in
+    let is = c.requires.is_record in
     let e = c.next_record-entry.ensures in
     let begins : BeginsWith c.bytes-2.result.now c.next_record-entry.result = record {
       is_record = subst IsRecord (sym e) c.requires.is_record;
       behind = [];
       spelled = c.bytes-2.ensures ∙ c.in_ok-spelled.ensures ∙ sym (append-nil (record_bytes c.next_record-entry.result));
     } in
-    ap length (c.digest_in.ensures c.next_record-entry.result begins) ∙ length-own_digest c.next_record-entry.result
+    record {
+      mount = omega (arith, ap (λ (x : Record). x.mount) e, is.mount.1);
+      commit = omega (arith, ap (λ (x : Record). x.commit.0) e, is.commit.1);
+      digest = ap length (c.digest_in.ensures c.next_record-entry.result begins) ∙ length-own_digest c.next_record-entry.result;
+      tail = is.tail;
+      root = is.root;
+    }
 
 pub returns-clause-ok : goal.returns-clause-ok
 returns-clause-ok c = λ log waits.
