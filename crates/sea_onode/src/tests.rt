@@ -1,4 +1,6 @@
 //! Onodes saved and found over a space in memory.
+ghost use Rattle.std.specs.Prelude.{◌≡◌, IfOk};
+ghost use Rattle.sea_base.specs.MapSpace.{seen_of};
 
 use crate::{ONODE_ROOT, erase, find, names, new_onode, save};
 use sea_base::{Data, Laddr, MapSpace, Name, Names, NoMemory, Nths, Space, SpaceFault};
@@ -9,7 +11,9 @@ use std::process::Abort;
 use std::test::Fail;
 
 // A space in which the get of this number fails.
-fn space(alloc: Global, fails: u64) -> Result<MapSpace, NoMemory> {
+fn space(alloc: Global, fails: u64) -> Result<MapSpace, NoMemory>
+    ensures { IfOk result (λ space. (seen_of space).next ≡ 2) }
+{
     let mut listed = Nths::new(alloc);
     listed.push(fails)?;
     Ok(MapSpace::new(alloc, listed))
@@ -38,16 +42,13 @@ fn an_onode_is_saved_and_found(rt: HostRuntime) -> Result<(), Fail> {
 fn names_are_listed_behind_their_bound(rt: HostRuntime) -> Result<(), Fail> {
     let alloc = rt.alloc();
     let mut space = space(alloc, 0)?;
-    for bytes in [b"b", b"c", b"a"] {
-        save(
-            alloc,
-            &mut space,
-            &name(alloc, bytes)?,
-            &new_onode(Laddr(2)),
-        )?;
-    }
-    erase(alloc, &mut space, &name(alloc, b"c")?)?;
     let a = name(alloc, b"a")?;
+    let c = name(alloc, b"c")?;
+    let onode = new_onode(Laddr(2));
+    save(alloc, &mut space, &c, &onode)?;
+    save(alloc, &mut space, &name(alloc, b"b")?, &onode)?;
+    save(alloc, &mut space, &a, &onode)?;
+    erase(alloc, &mut space, &c)?;
     let listed = names(alloc, &mut space, Some(&a), 9)?;
     assert_eq!(rt; listed.items().len(), 1);
     assert_eq!(rt; listed.items()[0].bytes(), b"b".as_slice());
