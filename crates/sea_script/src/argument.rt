@@ -119,11 +119,11 @@ impl Arguments {
         requires { kinds self ≡ replicate (length self) Kind.Name }
         ensures { IfOk result (λ names. self ≡ map Argument.Name names) }
     {
-        let mut names = Sequence::new(alloc);
+        let mut names = Vec::with_capacity(alloc, self.left.len())?;
         while !self.is_empty() {
             names.push(self.name())?;
         }
-        Ok(names)
+        Ok(Sequence::from_vec(names))
     }
 
     /// Takes the pairs that are left.
@@ -132,13 +132,13 @@ impl Arguments {
         requires pairs { kinds self ≡ alternate (length self) }
         ensures { IfOk result (λ pairs. self ≡ flat_map pair_arguments pairs) }
     {
-        let mut pairs = Sequence::new(alloc);
+        let mut pairs = Vec::with_capacity(alloc, self.left.len() / 2)?;
         while !self.is_empty() {
             let key = self.name();
             let value = self.bytes();
             pairs.push((key, value))?;
         }
-        Ok(pairs)
+        Ok(Sequence::from_vec(pairs))
     }
 }
 

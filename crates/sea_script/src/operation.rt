@@ -21,14 +21,19 @@ const BAD_OP: LineFault = LineFault::Why(ScriptWhy::BadOp);
 pub fn ops(alloc: Global, words: &[&[u8]]) -> Result<Ops, LineFault>
     ensures { ReadsOps (parts (seen words.now)) result }
 {
-    let mut ops = Sequence::new(alloc);
+    let mut ops = Vec::with_capacity(alloc, 1 + marks(words).min(15))?;
     let mut left = Some(words);
     while let Some(words) = left {
         let (part, behind) = cut(words);
         ops.push(op(alloc, part)?)?;
         left = behind;
     }
-    Ok(ops)
+    Ok(Sequence::from_vec(ops))
+}
+
+// How many words are `;`, for the room that the operations take.
+fn marks(words: &[&[u8]]) -> usize {
+    words.iter().filter(|word| is_mark(**word)).count()
 }
 
 // The words before the first `;`, and those behind it.

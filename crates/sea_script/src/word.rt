@@ -8,7 +8,7 @@ ghost use Rattle.sea_script.specs.Word.{AreBytes, byte_text, data_text, name_tex
 
 use crate::ScriptWhy;
 use crate::fault::LineFault;
-use sea_base::{Data, Name, NameFault};
+use sea_base::{Data, Name};
 use std::alloc::Global;
 
 const BAD_NAME: LineFault = LineFault::Why(ScriptWhy::BadName);
@@ -52,10 +52,9 @@ pub fn name_of(alloc: Global, word: &[u8]) -> Result<Name, LineFault>
         bytes.push(byte)?;
         rest = others;
     }
-    match Name::new(alloc, &bytes) {
-        Ok(name) => Ok(name),
-        Err(NameFault::NoMemory) => Err(LineFault::NoMemory),
-        Err(NameFault::BadName) => Err(BAD_NAME),
+    match Name::from_data(Data::from_vec(bytes)?) {
+        Some(name) => Ok(name),
+        None => Err(BAD_NAME),
     }
 }
 

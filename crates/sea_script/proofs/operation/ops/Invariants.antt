@@ -8,7 +8,7 @@ use Rattle.sea_script.proofs.operation.ops.Given as goal
 abbrev pub invariant-loop-left : goal.invariant-loop-left
 invariant-loop-left l = record {
   done : List (List (List ℕ));
-  each : OneByOne Spells done l.ops;
+  each : OneByOne Spells done l.ops.items;
   read : parts (seen l.fn.words) ≡ done ++ op_parts_left l.left;
 }
 

@@ -8,7 +8,7 @@ use Rattle.sea_script.proofs.argument.Arguments.names.Given as goal
 abbrev pub invariant-loop-names : goal.invariant-loop-names
 invariant-loop-names l = record {
   names : kinds l.self ≡ replicate (length l.self) NameKind;
-  read : l.fn.self ≡ map Name l.names ++ l.self;
+  read : l.fn.self ≡ map Name l.names.items ++ l.self;
 }
 
 abbrev pub decreases-loop-names : goal.decreases-loop-names

@@ -8,7 +8,7 @@ abbrev pub invariant-loop-self : goal.invariant-loop-self
 invariant-loop-self l = record {
   even : length l.self % 2 ≡ 0;
   pairs : kinds l.self ≡ alternate (length l.self);
-  read : l.fn.self ≡ flat_map pair_arguments l.pairs ++ l.self;
+  read : l.fn.self ≡ flat_map pair_arguments l.pairs.items ++ l.self;
 }
 
 abbrev pub decreases-loop-self : goal.decreases-loop-self
