@@ -1,0 +1,6 @@
+//! Operations on objects over the view of one transaction.
+#![tactic(auto)]
+
+mod asking;
+
+pub use asking::{get_attr, omap_get, omap_list, read, stat};
