@@ -1,6 +1,6 @@
 //! The largest objects, scripts and histories, with memory enough.
 
-use crate::tests::texts::printed;
+use crate::tests::texts::{printed, repeated};
 use std::alloc::{AllocError, Global};
 use std::fmt::Write;
 use std::test::Fail;
@@ -145,16 +145,6 @@ fn requests_of_16_clients(rt: HostRuntime) -> Result<(), Fail> {
     Ok(())
 }
 
-// A line so many times, and these behind it.
-fn repeated(alloc: Global, count: u32, line: &str, behind: &str) -> Result<String, AllocError> {
-    let mut script = String::new(alloc);
-    for _ in 0..count {
-        script.push_str(line)?;
-    }
-    script.push_str(behind)?;
-    Ok(script)
-}
-
 #[test]
 fn a_client_has_10000_requests(rt: HostRuntime) -> Result<(), Fail> {
     let script = repeated(rt.alloc(), 10_000, "1 stat a\n", "2 stat a\n")?;
@@ -163,28 +153,5 @@ fn a_client_has_10000_requests(rt: HostRuntime) -> Result<(), Fail> {
     let script = repeated(rt.alloc(), 10_000, "1 stat a\n", "2 stat a\n1 stat a\n")?;
     let text = printed(rt.alloc(), script.as_str())?;
     assert_eq!(rt; text.as_str(), "script 10002 TooManyRequests\n");
-    Ok(())
-}
-
-// 1,024 lines of reads that weigh 2^30 bytes together, and these behind them.
-fn heavy_reads(alloc: Global, behind: &str) -> Result<String, AllocError> {
-    let mut line = String::from_str(alloc, "1 read a 0 65536")?;
-    for _ in 0..15 {
-        line.push_str(" ; read a 0 65536")?;
-    }
-    line.push('\n')?;
-    repeated(alloc, 1_024, line.as_str(), behind)
-}
-
-#[test]
-fn reads_weigh_2_30_bytes(rt: HostRuntime) -> Result<(), Fail> {
-    let enough = heavy_reads(rt.alloc(), "1 stat a\n")?;
-    let line = last(rt.alloc(), enough.as_str())?;
-    assert_eq!(rt; line.as_str(), "1 1025 done none");
-    for behind in ["1 read a 0 1", "2 getattr a k", "3 list 1"] {
-        let script = heavy_reads(rt.alloc(), behind)?;
-        let text = printed(rt.alloc(), script.as_str())?;
-        assert_eq!(rt; text.as_str(), "script 1025 TooMuchRead\n", "{behind}");
-    }
     Ok(())
 }
