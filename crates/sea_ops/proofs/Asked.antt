@@ -1,6 +1,8 @@
 -- Operations that only ask: what they answer on a store, and that they leave it as it is.
-use Rattle.std.proofs.Common.{◌≡◌, inl, inr, ℕ, ◌+◌, ◌≤◌, ◌%◌, ◌^◌, true, max, List, [], ◌∷◌, length, filter, Option, Some, None, refl, sym, ap, subst, ◌∙◌, arith}
+use Rattle.std.proofs.Common.{◌≡◌, inl, inr, ℕ, ◌+◌, ◌≤◌, ◌%◌, ◌^◌, true, max, List, [], ◌∷◌, length, filter, take, Option, Some, None, refl, sym, ap, subst, ◌∙◌, arith}
+use Rattle.std.proofs.lemmas.List.{take_all}
 use Rattle.std.specs.FinMap as map
+use Rattle.std.specs.FinMap.{len-entries}
 use Rattle.sea_base.specs.Space.{Store, Seen, OnlyRead, laid}
 use Rattle.sea_base.proofs.Spaces.{agrees_before}
 use Rattle.sea_data.proofs.Bytes.{length-bytes_from}
@@ -12,6 +14,7 @@ use Rattle.sea_object.specs.Answer as model
 use Rattle.sea_object.specs.Objects.{ObjectValue, ObjectMap, is_after}
 use Rattle.sea_onode.specs.Calls as onode
 use Rattle.sea_onode.specs.Spelling.{IsValueOf}
+use Rattle.sea_onode.specs.Order.{AreInOrder}
 use Rattle.sea_onode.proofs.Order.{order-later}
 use Rattle.sea_tree.specs.declared.fault.TreeFault.{TreeFault}
 use Rattle.sea_tree.specs.declared.fault.TreeFault.TheVariants.{Space, Broken}
@@ -20,16 +23,17 @@ use Rattle.sea_tree.specs.Content.{HasContent}
 use Rattle.sea_tree.specs.Calls.{IsOfSpace}
 use Rattle.sea_tree.proofs.Holding.{breaks_from_path, whole_tree}
 use Rattle.sea_tree.proofs.Walks.{one_store}
-use Rattle.sea_ops.specs.WellFormed.{IsObjectOf, AreOfOne, IsWellFormed}
+use Rattle.sea_ops.specs.WellFormed.{IsObjectOf, AreOfOne, AreSharedOut, IsWellFormed}
 use Rattle.sea_ops.specs.Calls.{Meets, Does, Fails}
 
--- addresses may be given
-pub formed_later : (store : Store) (next later : ℕ) (objects : ObjectMap) → IsWellFormed store next objects → next ≤ later → IsWellFormed store later objects
-formed_later store next later objects f le = record {
+-- A store is well formed that is the same, with a later next address, and as the same objects are
+-- written.
+unfoldable pub formed_as : (s t : Store) (next later : ℕ) (before after : ObjectMap) → IsWellFormed s next before → t ≡ s → next ≤ later → after ≡ before → IsWellFormed t later after
+formed_as s t next later before after f is le same = record {
   onodes = f.onodes;
-  order = order-later store next f.onodes f.order later le;
-  each = f.each;
-  shared = f.shared;
+  order = subst (λ (u : Store). AreInOrder u later f.onodes) (sym is) (order-later s next f.onodes f.order later le);
+  each = λ name. subst (λ (o : ObjectMap). AreOfOne t (map.get f.onodes name) (map.get o name)) (sym same) (subst (λ (u : Store). AreOfOne u (map.get f.onodes name) (map.get before name)) (sym is) (f.each name));
+  shared = subst (λ (u : Store). AreSharedOut u f.onodes) (sym is) f.shared;
 }
 
 -- ---- what is asked
@@ -44,16 +48,15 @@ pub asks : (op : Op) (item : Item) (old new : Seen) → OnlyRead old new
     → model.refusal_at op None ≡ None → ((o : ObjectValue) → model.overfills op o ≡ None)
     → ((store : Store) (next : ℕ) (objects : ObjectMap) → Meets store next objects old new → item ≡ model.item op objects)
     → Does op item old new
+unfolding formed_as
 asks op item old new reads same none some answers = record {
   notes = reads.noted;
   rises = omega (arith, reads.next);
   does = λ store next objects m. record {
     allowed = allows op none some (model.object_of _ objects);
     answers = answers store next objects m;
-    formed =
-        subst (IsWellFormed (laid new store) (max next new.next)) (sym (same objects))
-        (subst (λ (s : Store). IsWellFormed s (max next new.next) objects) (sym (one_store reads store))
-        (formed_later (laid old store) next (max next new.next) objects m.formed (omega arith)));
+    formed = formed_as (laid old store) (laid new store) next (max next new.next) objects (model.effect op objects) m.formed (one_store reads store) (omega arith) (same objects);
+    leaves = λ at free new_to. record { low = free.low; empty = ap (λ (s : Store). s at) (one_store reads store) ∙ free.empty; unused = free.unused };
     within = λ at changed. inl (sym (reads.changed at) ∙ changed);
   };
 }
@@ -142,3 +145,9 @@ path_fails (Broken at) root key content mid new store m cause = whole_tree (laid
 pub range_fails : (fault : TreeFault) (root : ℕ) (from : List ℕ) (content : Values) (mid new : Seen) (store : Store) → tree.Meets store root mid new content → tree.IsRangeFault root from mid new fault → IsOfSpace fault
 range_fails (Space fault) root from content mid new store m cause = tt
 range_fails (Broken at) root from content mid new store m cause = whole_tree (laid mid store) root at.0 m.content.tree (breaks_from_path (laid mid store) cause.0 root at.0 (cause.3 store m.agrees))
+
+-- all attributes are the first 64
+pub all_attributes : (store : Store) (next : ℕ) (objects : ObjectMap) (old mid new : Seen) (first : OnlyRead old mid) (later : OnlyRead mid new) (m : Meets store next objects old new) (name : List ℕ) (here : Onode) → onode.Finds name old mid (Some here) → (o : ObjectValue) → IsObjectOf (laid old store) here o → take 64 (map.entries o.attributes) ≡ map.entries o.attributes
+all_attributes store next objects old mid new first later m name here finds o is =
+    let order = m.formed.order.each name here (sym (finds.onode store m.formed.onodes (meets_find store next objects old mid new first later m))) in
+    take_all 64 (map.entries o.attributes) (omega (arith, order.attrs, is.attrs, len-entries o.attributes))

@@ -1,1 +1,4 @@
 pub mod Asked
+pub mod Examples
+pub mod Names
+pub mod Stable

@@ -3,6 +3,7 @@ use Rattle.std.specs.Prelude.{◌≡◌, ◌⊎◌, ℕ, ◌<◌, ◌≤◌, ◌
 use Rattle.sea_base.specs.Space.{Store, Seen, Found, Agrees, laid}
 use Rattle.sea_object.specs.declared.op.Op.{Op}
 use Rattle.sea_object.specs.declared.reply.Item.{Item}
+use Rattle.sea_object.specs.declared.reply.Why.{Why}
 use Rattle.sea_object.specs.Answer as model
 use Rattle.sea_object.specs.Objects.{ObjectMap}
 use Rattle.sea_omap.specs.Calls.{IsGiven}
@@ -30,13 +31,15 @@ pub record Meets (store : Store) (next : ℕ) (objects : ObjectMap) (old new : S
 
 -- What an operation comes to on such a store: the model doesn't refuse it, and answers the same item;
 -- with its changes laid over the store as well, that is well formed and holds the objects after it,
--- the next address raised above those that it was given; and what it changed lies from 1 to below
--- that.
+-- the next address raised above those that it was given; it leaves free what was free and wasn't
+-- given; and what it changed lies from 1 to below the next address.
 pub record IsDone (op : Op) (item : Item) (store : Store) (next : ℕ) (objects : ObjectMap)
-    (old new : Seen) : Type 0 where
+    (old new : Seen) (m : Meets store next objects old new) : Type 0 where
   pub allowed : model.refusal op objects ≡ None
   pub answers : item ≡ model.item op objects
   pub formed : IsWellFormed (laid new store) (max next new.next) (model.effect op objects)
+  pub leaves : (at : ℕ) → IsFree (laid old store) m.formed.onodes at → (IsGiven old new at → ⊥)
+      → IsFree (laid new store) formed.onodes at
   pub within : (at : ℕ) → new.changed at ≡ true
       → (old.changed at ≡ true) ⊎ ((1 ≤ at) × (at < max next new.next))
 
@@ -48,8 +51,15 @@ NotesMore old new = (at : ℕ) (found : Found) → old.reads at ≡ Some found �
 pub record Does (op : Op) (item : Item) (old new : Seen) : Type 0 where
   pub notes : NotesMore old new
   pub rises : old.next ≤ new.next
-  pub does : (store : Store) (next : ℕ) (objects : ObjectMap) → Meets store next objects old new
-      → IsDone op item store next objects old new
+  pub does : (store : Store) (next : ℕ) (objects : ObjectMap)
+      (m : Meets store next objects old new) → IsDone op item store next objects old new m
+
+-- An operation was refused, for this reason: on every store that it speaks of.
+pub record Refuses (op : Op) (why : Why) (old new : Seen) : Type 0 where
+  pub notes : NotesMore old new
+  pub rises : old.next ≤ new.next
+  pub refuses : (store : Store) (next : ℕ) (objects : ObjectMap)
+      → Meets store next objects old new → model.refusal op objects ≡ Some why
 
 -- An operation ended with a fault: that of the space, where it speaks of a store at all.
 abbrev pub Fails : Seen → Seen → TreeFault → Type 0

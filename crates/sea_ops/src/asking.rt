@@ -3,7 +3,8 @@ ghost use Rattle.std.specs.Prelude.{◌≡◌, ◌+◌, ◌≤◌, ◌%◌, ◌^
 ghost use Rattle.std.specs.Option.{option_copied};
 ghost use Rattle.sea_base.specs.Ghosts.{IsReady, IsCall};
 ghost use Rattle.sea_base.specs.Space.{OnlyRead};
-ghost use Rattle.sea_object.specs.declared.op.Op.TheVariants.{Read, Stat, GetAttr, OmapGet, OmapList};
+ghost use Rattle.sea_object.specs.declared.op.Op.TheVariants.{Read, Stat, GetAttr, GetAttrs};
+ghost use Rattle.sea_object.specs.declared.op.Op.TheVariants.{OmapGet, OmapList, List as ListNames};
 ghost use Rattle.sea_object.specs.Answer as model;
 ghost use Rattle.sea_object.specs.Op.{IsCount};
 ghost use Rattle.sea_tree.specs.Calls.{space_fault};
@@ -12,9 +13,12 @@ ghost use Rattle.sea_ops.specs.Calls.{Does, Fails};
 use sea_base::{Data, Key, Laddr, Name, Space};
 use sea_data::read as read_bytes;
 use sea_object::{Item, Onode};
-use sea_onode::find;
+use sea_onode::{find, names};
 use sea_tree::{TreeFault, get, range};
 use std::alloc::Global;
+
+/// How many attributes an object has at most.
+const MOST_ATTRIBUTES: u32 = 64;
 
 /// The size of an object in bytes.
 pub fn stat<S: Space>(space: &mut S, name: &Name) -> Result<Item, TreeFault>
@@ -44,6 +48,24 @@ pub fn get_attr<S: Space>(space: &mut S, name: &Name, key: &Key) -> Result<Item,
         Some(onode) => {
             let value = get(space, onode.base, key)?;
             Ok(value_item(value))
+        }
+        None => Ok(Item::Absent),
+    }
+}
+
+/// All attributes of an object.
+pub fn get_attrs<S: Space>(alloc: Global, space: &mut S, name: &Name) -> Result<Item, TreeFault>
+    requires { IsReady S.Space space.old }
+    ensures does { IfOk result (λ item.
+        Does (GetAttrs name.now) item (S.seen space.old) (S.seen space.new)) }
+    ensures failure { IfErr result (Fails (S.seen space.old) (S.seen space.new)) }
+    ensures reads { OnlyRead (S.seen space.old) (S.seen space.new) }
+    ensures call { IsCall S.Space space.old space.new (space_fault result) }
+{
+    match find(space, name)? {
+        Some(onode) => {
+            let pairs = range(alloc, space, onode.base, None, MOST_ATTRIBUTES)?;
+            Ok(Item::Pairs(pairs))
         }
         None => Ok(Item::Absent),
     }
@@ -133,4 +155,22 @@ pub fn read<S: Space>(
         }
         None => Ok(Item::Absent),
     }
+}
+
+/// The first names of objects behind one, or with none of all objects, `limit` of them at most.
+pub fn list<S: Space>(
+    alloc: Global,
+    space: &mut S,
+    limit: u32,
+    after: Option<&Name>,
+) -> Result<Item, TreeFault>
+    requires { IsReady S.Space space.old }
+    ensures does { IfOk result (λ item. Does (ListNames limit (option_copied after.entry)) item
+        (S.seen space.old) (S.seen space.new)) }
+    ensures failure { IfErr result (Fails (S.seen space.old) (S.seen space.new)) }
+    ensures reads { OnlyRead (S.seen space.old) (S.seen space.new) }
+    ensures call { IsCall S.Space space.old space.new (space_fault result) }
+{
+    let listed = names(alloc, space, after, limit)?;
+    Ok(Item::Names(listed))
 }

@@ -3,4 +3,4 @@
 
 mod asking;
 
-pub use asking::{get_attr, omap_get, omap_list, read, stat};
+pub use asking::{get_attr, get_attrs, list, omap_get, omap_list, read, stat};
