@@ -13,7 +13,9 @@ const EMPTY_TREE: PRoot = PRoot {
 };
 
 /// The roots of empty trees, and this next address.
-pub fn empty_root(next: u64) -> Root {
+pub fn empty_root(next: u64) -> Root
+    ensures { result.next.0 ≡ next }
+{
     Root {
         lba: EMPTY_TREE,
         owners: EMPTY_TREE,

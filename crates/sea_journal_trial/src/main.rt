@@ -1,4 +1,5 @@
-//! Trials of the journal: crashes within each write of a run, and each call of the device failing once.
+//! Trials of the journal: crashes within each write of a run, each call of the device failing once, and
+//! records pushed and synced so many times.
 #![tactic(auto)]
 
 mod bodies;
@@ -9,10 +10,12 @@ mod failing;
 mod fault;
 mod past;
 mod running;
+mod speed;
 
 use crashes::crash_each_write;
 use failing::fail_each_call;
 use fault::TrialFault;
+use speed::{hash_records, push_records};
 use std::env;
 use std::process::ExitCode;
 
@@ -39,6 +42,15 @@ fn run(rt: &HostRuntime) -> Result<(), TrialFault> {
     match (work.as_str(), number) {
         ("crashes", Some(lost)) => {
             println!(rt; "{}", crash_each_write(alloc, counted(lost.as_str())?)?)?;
+        }
+        ("push", Some(count)) => {
+            println!(rt;
+                "records {}",
+                push_records(alloc, counted(count.as_str())?)?
+            )?;
+        }
+        ("hash", Some(count)) => {
+            println!(rt; "hashed {}", hash_records(alloc, counted(count.as_str())?)?)?;
         }
         ("faults", None) => println!(rt; "calls {}", fail_each_call(alloc)?)?,
         _ => return Err(TrialFault::Usage),
