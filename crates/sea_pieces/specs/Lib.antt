@@ -1,0 +1,5 @@
+pub mod Committed
+pub mod Laying
+pub mod Reads
+pub mod Spelling
+pub mod Transaction

@@ -1,0 +1,16 @@
+//! Objects as the pieces of records make them, with their versions, and the transactions on them.
+#![tactic(auto)]
+
+mod committed;
+mod content;
+mod piece;
+mod spelling;
+mod transaction;
+
+pub use committed::Committed;
+pub use piece::{Piece, Pieces};
+pub use spelling::{read_pieces, spell_pieces};
+pub use transaction::Transaction;
+
+#[cfg(test)]
+mod tests;
