@@ -198,6 +198,7 @@ none_synced log none = record {
   stand = refl;
   queued = none;
   next = refl;
+  still = λ _. refl;
 }
 
 module _ {D : Type 0} {g : Ghosts D} where
@@ -328,7 +329,7 @@ module _ {D : Type 0} {g : Ghosts D} where
       let numbers : take (4096 * (segment_end t.active - t.end.0)) (drop (4096 * t.end.0) image) ≡ take (4096 * (segment_end q.active - q.start.0)) (drop (4096 * q.start.0) image) =
       ap (λ (n : ℕ). take (4096 * (segment_end t.active - n)) (drop (4096 * n) image)) (sym has.waits.start) ∙ ap (λ (a : ℕ). take (4096 * (segment_end a - q.start.0)) (drop (4096 * q.start.0) image)) (sym has.waits.active) in
       let chain : IsChain (rest_of image t) t.end.0 t.seq (trail_link t) log.queued = written_chain (rest_of image t) laid.behind t.end.0 t.seq (trail_link t) log.queued has.is_log.linked (rest_is t image (bounds log.anchor t has.is_log.trail) ∙ numbers ∙ laid.is) laid.none in
-      let made = synced log image has.is_log steady after chain in
+      let made = synced log image has.is_log steady after chain (λ nothing. omega (arith, some, has.waits.start, has.waits.place, ap (chain_end t.end.0) nothing)) in
       let next = made.0 in
       let step_to = made.1 in
       let ext = step_to.trail in
@@ -363,47 +364,6 @@ module _ {D : Type 0} {g : Ghosts D} where
 
 -- ---- a journal begins
 
--- the mount record keeps the rules of records
-pub mount_is : (t : Trail) (size : ℕ) → CanResume t size → length t.last.0 ≡ 32 → IsRecord (mount_record t)
-unfolding metadata
-mount_is t size can last = record {
-  mount = (omega arith, omega (arith, can.numbers.mount));
-  seq = (can.numbers.seq.0, omega (arith, can.numbers.seq.1));
-  place = omega (arith, can.room.rest, can.room.active, can.room.few);
-  commit = (omega arith, omega (arith, can.numbers.commit));
-  tail = can.fields.tail;
-  root = can.fields.root;
-  prev = last;
-  kind = record { listed = refl; nodes = refl; plain = refl };
-  placed = λ k d lt. absurd (omega arith);
-  nodes = λ k d lt. absurd (omega arith);
-  changes = λ k d lt. absurd (omega arith);
-  addresses = record {
-    rise = (λ i j lt below. absurd (omega arith), λ i j lt below. absurd (omega arith), λ i j lt below. absurd (omega arith));
-    given = (λ k d lt. absurd (omega arith), λ k d lt. absurd (omega arith), λ k d lt. absurd (omega arith));
-    apart = (λ i j lt below. absurd (omega arith), λ i j lt below. absurd (omega arith), λ i j lt below. absurd (omega arith));
-  };
-  few = omega arith;
-}
-
-pub mounted_is : (image : List ℕ) (t : Trail) → IsTrail image t → IsRecord (mount_record t) → IsLog (pushed (opened image t) (mount_record t))
-mounted_is image t trail is =
-    pushed_is (opened image t) (mount_record t) (opened_is image t trail) (record { is_record = is; same_segment = refl; in_place = refl; commit = refl; mount = refl; prev = refl }) (stays refl) refl
-
-pub mount_blocks : blocks mount_body ≡ 1
-unfolding metadata
-mount_blocks = refl
-
--- what a queue that begins behind a trail makes of the mount record's body
-pub begins_mount : (t : Trail) (q : Queue) (body : Body) → BeginsBehind t q → body ≡ mount_body → record_behind q.place.0 q.seq q.link body t.tail t.root ≡ mount_record t
-begins_mount t q body begins is =
-    let made : ℕ → ℕ → Link → Body → Record = λ place seq link b. record_behind place seq link b t.tail t.root in
-    let place : q.place.0 ≡ t.end.0 = ap (λ p. p.0) begins.place in
-    ap (λ (b : Body). made q.place.0 q.seq q.link b) is
-    ∙ ap (λ (n : ℕ). made n q.seq q.link mount_body) place
-    ∙ ap (λ (s : ℕ). made t.end.0 s q.link mount_body) begins.seq
-    ∙ ap (λ (l : Link). made t.end.0 t.seq l mount_body) begins.link
-
 module _ {D : Type 0} {g : Ghosts D} where
   -- a journal that begins has nothing of its own
   pub start_has : (image : List ℕ) (t : Trail) (j : Journal D g) → IsTrail image t → Waits (opened image t) j.queue → j.roll ≡ None → InTable (opened image t) j.table → g.contents j.device ≡ Some image
@@ -421,18 +381,3 @@ module _ {D : Type 0} {g : Ghosts D} where
         images = λ c left. subst (IsBehind (opened image t)) (sym (only c left)) still;
         settled = λ none steady. record { held = λ some. refl; alone = only };
       }
-
-module _ {D : Type 0} (g : Ghosts D) where
-  -- without a call of the device a crash leaves what was found
-  pub crash_at_start : (image : List ℕ) (t : Trail) (old new : D) → IsTrail image t → IsRecord (mount_record t) → g.contents old ≡ Some image → ((c : List ℕ) → g.may_leave old c → c ≡ image)
-      → new ≡ old → ((d : D) (c : List ℕ) → g.left_since d (g.clock d) c → g.may_leave d c) → ((d : D) (b : List ℕ) → g.contents d ≡ Some b → IsImage (g.size d) b)
-      → CrashesKeep g (pushed (opened image t) (mount_record t)) old new
-  crash_at_start image t old new trail is told only same only_now whole c left clear =
-      let log = pushed (opened image t) (mount_record t) in
-      let still : IsBehind log image = Torn-none (4096 * t.end.0) (4096 * (segment_end t.active - t.end.0)) (g.size old) image (whole old image told) in
-      let here : c ≡ image = only c (only_now old c (subst (λ (d : D). g.left_since d (g.clock old) c) same left)) in
-      clear_behind log c (mounted_is image t trail is) (subst (IsBehind log) (sym here) still) clear.records
-
--- the digest of a link is one
-pub last_digest : (t : Trail) (q : Queue) → BeginsBehind t q → length t.last.0 ≡ 32
-last_digest t q begins = ap (λ (l : Link). length l.digest.0) (sym begins.link) ∙ q.linked.digest

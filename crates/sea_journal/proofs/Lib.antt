@@ -11,6 +11,7 @@ pub mod Journals
 pub mod Trials
 pub mod BlocksNow
 pub mod Apart
+pub mod Mounts
 pub mod Openings
 pub mod Tables
 pub mod Rolling

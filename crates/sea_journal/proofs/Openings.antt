@@ -31,7 +31,7 @@ in_segment log h image beside = Torn-wider (4096 * header_block h.segment) 4096 
 same_some : (x y : Header) (o : Option Header) → o ≡ Some x → o ≡ Some y → x ≡ y
 same_some x y o one two = cc
 
-none_some : (x : Header) (o : Option Header) → o ≡ None → o ≡ Some x → ⊥
+pub none_some : (x : Header) (o : Option Header) → o ≡ None → o ≡ Some x → ⊥
 none_some x o one two = cc
 
 -- ---- while the header is being written
@@ -42,6 +42,27 @@ module _ (log : Log) (h : Header) (image : List ℕ) (is : IsLog log) (writing :
 
   later : h.seq ≡ log.trail.seq + 1
   later = ap (λ (x : Header). x.seq) next_is.is
+
+  -- where it doesn't stand, and each header is known, the trail stays
+  module _ (known : (k : Header) → HasHeader image log.trail.segments k → IsKnownHeader log k) where
+    at_segment : HeaderAt image h.segment
+    at_segment =
+        elim (find_at image is.known.list h.segment is.known.headers) [
+          | found k here stands ↦ some k here stands
+          | missed nothing ↦ none (λ k here stands.
+              let within : k.segment < log.trail.segments = subst (λ (s : ℕ). s < log.trail.segments) (sym here) next_is.spare.within in
+              nothing k (is.known.all k (known k (record { within = within; stands = stands }))) here stands)
+        ]
+
+    pub stays_beside : (StandsIn image h → ⊥) → (u : Trail) × IsTrail image u × Extends log.trail [] u
+    stays_beside other =
+        let t = log.trail in
+        let older : (k : Header) → HasHeader image t.segments k → IsNoNewer log.anchor t k = λ k has.
+        elim (is.numbers k (known k has)) [
+          | inl no_newer ↦ no_newer
+          | inr next ↦ absurd (other (subst (StandsIn image) (same_some k h log.next next writing) has.stands))
+        ] in
+        stays_there log.anchor image h.segment (in_segment log h image beside) t is.trail next_is.spare older at_segment
 
   module _ (clear : IsClear log image) where
     -- where it stands it is the newest
@@ -82,31 +103,15 @@ module _ (log : Log) (h : Header) (image : List ℕ) (is : IsLog log) (writing :
               )
         ]
 
-    at_segment : HeaderAt image h.segment
-    at_segment =
-        elim (find_at image is.known.list h.segment is.known.headers) [
-          | found k here stands ↦ some k here stands
-          | missed nothing ↦ none (λ k here stands.
-              let within : k.segment < log.trail.segments = subst (λ (s : ℕ). s < log.trail.segments) (sym here) next_is.spare.within in
-              nothing k (is.known.all k (clear.headers k (record { within = within; stands = stands }))) here stands)
-        ]
-
     pub clear_beside : HasPrefix log image
     clear_beside =
-        let t = log.trail in
-        let torn = in_segment log h image beside in
         elim (stands_or image h next_is.is_header) [
           | inl stands ↦ (
-              let made = opened_there log.anchor image h.segment torn t is.trail next_is.spare h refl stands next_is.is (none_there stands) in
+              let made = opened_there log.anchor image h.segment (in_segment log h image beside) log.trail is.trail next_is.spare h refl stands next_is.is (none_there stands) in
               up_to_header h (record { begun = writing; alone = next_is.alone; trail = made.0; is_trail = made.1; opens = made.2 })
               )
           | inr other ↦ (
-              let older : (k : Header) → HasHeader image t.segments k → IsNoNewer log.anchor t k = λ k has.
-              elim (is.numbers k (clear.headers k has)) [
-                | inl no_newer ↦ no_newer
-                | inr next ↦ absurd (other (subst (StandsIn image) (same_some k h log.next next writing) has.stands))
-              ] in
-              let made = stays_there log.anchor image h.segment torn t is.trail next_is.spare older at_segment in
+              let made = stays_beside clear.headers other in
               up_to_record (record { count = 0; within = omega arith; trail = made.0; is_trail = made.1; extends = made.2 })
               )
         ]

@@ -158,8 +158,8 @@ later_tail log is u last =
 
 -- What is queued stands behind the trail, and is stable.
 pub synced : (log : Log) (image : List ℕ) → IsLog log → log.next ≡ None → IsBehind log image → IsChain (rest_of image log.trail) log.trail.end.0 log.trail.seq (trail_link log.trail) log.queued
-    → (new : Log) × IsSynced log new × (new.anchor ≡ image) × IsLog new
-synced log image is steady after chain =
+    → (log.queued ≡ [] → ⊥) → (new : Log) × IsSynced log new × (new.anchor ≡ image) × IsLog new
+synced log image is steady after chain some =
     let t = log.trail in
     let p = is.trail.newest in
     let all : take (length log.queued) log.queued ≡ log.queued = take_all (length log.queued) log.queued (omega arith) in
@@ -183,7 +183,7 @@ synced log image is steady after chain =
     let row : StandInRow (body_of image p.header.segment) (first_block p.header.segment) p.header.seq (header_link p.header) q.records = subst (λ (k : Header). StandInRow (body_of image k.segment) (first_block k.segment) k.seq (header_link k) q.records) header
     (row_of_chain (body_of image q.header.segment) (first_block q.header.segment) q.header.seq (header_link q.header) q.records u_is.is_open.chain.chain) in (
       new,
-      record { opened = refl; headers = refl; made = refl; trail = ext; stand = made.3; queued = refl; next = refl },
+      record { opened = refl; headers = refl; made = refl; trail = ext; stand = made.3; queued = refl; next = refl; still = λ none. absurd (some none) },
       refl,
       record {
         trail = u_is;

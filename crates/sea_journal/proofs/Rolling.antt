@@ -9,23 +9,23 @@ use Rattle.sea_device.specs.declared.device.Device.{Ghosts}
 use Rattle.sea_device.specs.Device.{IsImage, Torn, overwritten}
 use Rattle.sea_record.specs.declared.record.Record.{Record}
 use Rattle.sea_segment.specs.Header.{SpellsHeader}
-use Rattle.sea_segment.specs.Table.{IsEmpty}
+use Rattle.sea_segment.specs.Table.{IsEmpty, IsLeastEmpty}
 use Rattle.sea_segment.specs.declared.header.Header.{Header}
 use Rattle.sea_segment.specs.declared.state.Segment.{Segment}
 use Rattle.sea_trail.specs.Trail.{HasHeader, IsNewest, StandsIn, block_of, chain_end, first_block, header_block, header_link, last_link, segment_end, trail_link}
 use Rattle.sea_trail.specs.declared.link.Link.{Link}
 use Rattle.sea_trail.specs.declared.trail.Trail.{Trail}
 use Rattle.sea_journal.specs.Changes.{ChangesBy, LeavesItself, ToldBy}
-use Rattle.sea_journal.specs.Journal.{CrashesKeep, HasLog, IsSettled}
+use Rattle.sea_journal.specs.Journal.{HasLog, IsSettled}
 use Rattle.sea_journal.specs.Links.{queue_bytes}
-use Rattle.sea_journal.specs.Log.{Log, Extends, HasPrefix, HasRecords, IsBehind, IsBeside, IsClear, IsFinished, IsKnown, IsKnownHeader, IsLog, IsNextHeader, IsOnTrail, IsRolled, IsSynced, Opens, WithHeader, after_begin, after_roll, after_sync, as_before, begun, header_behind, up_to_header, up_to_record}
+use Rattle.sea_journal.specs.Log.{Log, Extends, HasPrefix, HasRecords, IsBehind, IsBeside, IsAfter, IsClear, IsFinished, IsKnown, IsKnownHeader, IsLog, IsNextHeader, IsOnTrail, IsRolled, IsSynced, Opens, WithHeader, after_begin, after_roll, after_sync, as_before, begun, header_behind, up_to_header, up_to_record}
 use Rattle.sea_journal.specs.Queue.{Waits}
-use Rattle.sea_journal.specs.Reserve.{Begins, ComesTo, IsFinishedBy}
+use Rattle.sea_journal.specs.Reserve.{Begins, ComesTo, IsFinishedBy, IsOnTheWay, Keeps, Rolls, after_past, beside_header}
 use Rattle.sea_journal.specs.Rolls.{BeginsAt, InTable, Writes, rolled_table}
 use Rattle.sea_journal.specs.declared.journal.Journal.{Journal}
 use Rattle.sea_journal.specs.declared.roll.Roll.{Roll}
 use Rattle.sea_journal.proofs.Calls.{IfSome-at}
-use Rattle.sea_journal.proofs.Journals.{after_change, after_some, keeps_idle, moments_after, none_synced, of_some, of_none, told_after, written_none, written_some}
+use Rattle.sea_journal.proofs.Journals.{after_change, after_some, moments_after, none_synced, of_some, of_none, told_after, written_none, written_some}
 use Rattle.sea_journal.proofs.Openings.{Finished, after_none, begun_is, clear_beside, clear_has_prefix, finished}
 use Rattle.sea_journal.proofs.Overlays.{slice_inside}
 use Rattle.sea_journal.proofs.Pasts.{KnowsRows, clear_behind}
@@ -111,6 +111,7 @@ rolled_by log mid next h steady step follows done = record {
   made = done.made ∙ step.made;
   stable = mid.trail;
   extends = step.trail;
+  still = λ none. ap (λ (l : Log). l.trail) (step.still none);
   header = h;
   is = follows;
   headers = subst (λ (o : Option Header). WithHeader o h log.headers next.headers) (sym steady) (done.headers ∙ ap (λ (hs : List Header). hs ++ h ∷ []) step.headers);
@@ -125,6 +126,7 @@ finished_by log next h writing none follows done = record {
   made = done.made;
   stable = log.trail;
   extends = (none_synced log none).trail;
+  still = λ _. refl;
   header = h;
   is = follows;
   headers = subst (λ (o : Option Header). WithHeader o h log.headers next.headers) (sym writing) (refl, done.headers);
@@ -144,6 +146,10 @@ block_put image block s size within =
     slice_inside at at end block image (omega arith) (omega arith) (omega arith) within
     ∙ ap (λ (n : ℕ). slice_range block n (end - at)) from ∙ ap (λ (n : ℕ). slice_range block 0 n) to
     ∙ take_all 4096 block (omega arith)
+
+-- each image that was left since the old device comes after the anchor
+abbrev pub AfterSince : {D : Type 0} → Ghosts D → Log → D → D → Type 0
+AfterSince g log old new = (c : List ℕ) → g.left_since new (g.clock old) c → IsAfter log c
 
 module _ {D : Type 0} {g : Ghosts D} where
   -- ---- the write of a header begins
@@ -211,12 +217,12 @@ module _ {D : Type 0} {g : Ghosts D} where
           settled = λ _ steady. (let e = named in absurd (cc));
         }
 
-    -- at each moment of it a clear image has what was stable, or the header too
-    pub keeps_writing : ((c : List ℕ) → g.left_since old.device (g.clock old.device) c → g.may_leave old.device c) → CrashesKeep g log old.device new.device
-    keeps_writing only c left clear =
+    -- at each moment of it an image comes after the anchor
+    pub since_writing : ((c : List ℕ) → g.left_since old.device (g.clock old.device) c → g.may_leave old.device c) → AfterSince g log old.device new.device
+    since_writing only c left =
         elim (changes.moments (g.clock old.device) c (omega arith) left) [
-          | inl past ↦ clear_has_prefix log c has.is_log (has.images c (only c past)) clear
-          | inr from ↦ clear_has_prefix log c has.is_log (of_some log roll.header c named (Torn-more (4096 * header_block roll.header.segment) 4096 log.anchor from.0 c (after_some log roll.header from.0 named (has.images from.0 from.1)) from.2)) clear
+          | inl past ↦ has.images c (only c past)
+          | inr from ↦ of_some log roll.header c named (Torn-more (4096 * header_block roll.header.segment) 4096 log.anchor from.0 c (after_some log roll.header from.0 named (has.images from.0 from.1)) from.2)
         ]
 
     -- once it is stable records go on behind it
@@ -260,31 +266,41 @@ module _ {D : Type 0} {g : Ghosts D} where
 
   -- ---- a roll
 
-  -- from one past to another without a call of the device
-  pub comes_none : (log : Log) (j : Journal D g) → HasLog g log j → ((c : List ℕ) → g.left_since j.device (g.clock j.device) c → g.may_leave j.device c) → ComesTo g j j log log
-  comes_none log j has only = record {
+  pub since_idle : (log : Log) (old : Journal D g) (new : D) → HasLog g log old → ((c : List ℕ) → g.left_since old.device (g.clock old.device) c → g.may_leave old.device c) → new ≡ old.device → AfterSince g log old.device new
+  since_idle log old new has only same c left = has.images c (only c (subst (λ (d : D). g.left_since d (g.clock old.device) c) same left))
+
+  pub since_sync : (log : Log) (old : Journal D g) (new : D) → HasLog g log old → log.next ≡ None → ((c : List ℕ) → g.left_since old.device (g.clock old.device) c → g.may_leave old.device c)
+      → (let q = old.queue in ChangesBy (Torn (4096 * q.start.0) (4096 * (segment_end q.active - q.start.0))) g old.device new) → AfterSince g log old.device new
+  since_sync log old new has steady only changes c left = of_none log c steady (moments_after log old new has steady only (after_change log old new has changes) c left)
+
+  -- a call failed, or there was none
+  pub comes_failed : (log : Log) (old new : Journal D g) → HasLog g log new → g.clock old.device ≤ g.clock new.device → AfterSince g log old.device new.device → ComesTo g old new log log
+  comes_failed log old new has later since = record {
     has_log = has;
     goes_on = as_before refl;
-    crash = λ c left clear. inl (clear_has_prefix log c has.is_log (has.images c (only c left)) clear);
+    later = later;
+    images = λ c left. after_past (since c left);
+    crash = λ c left clear. inl (clear_has_prefix log c has.is_log (since c left) clear);
   }
 
-  pub comes_failed : (log : Log) (old new : Journal D g) → HasLog g log new → CrashesKeep g log old.device new.device → ComesTo g old new log log
-  comes_failed log old new has crash = record { has_log = has; goes_on = as_before refl; crash = λ c left clear. inl (crash c left clear) }
-
-  pub comes_synced : (log next : Log) (old new : Journal D g) → HasLog g next new → IsSynced log next → CrashesKeep g log old.device new.device → ComesTo g old new log next
-  comes_synced log next old new has step crash = record {
+  pub comes_synced : (log next : Log) (old new : Journal D g) → HasLog g next new → IsLog log → IsSynced log next → g.clock old.device ≤ g.clock new.device → AfterSince g log old.device new.device → ComesTo g old new log next
+  comes_synced log next old new has is step later since = record {
     has_log = has;
     goes_on = after_sync step;
-    crash = λ c left clear. inl (crash c left (clear_by log next c step.opened step.headers step.made step.trail.segments clear));
+    later = later;
+    images = λ c left. after_past (since c left);
+    crash = λ c left clear. inl (clear_has_prefix log c is (since c left) (clear_by log next c step.opened step.headers step.made step.trail.segments clear));
   }
 
-  pub comes_finished : (log next : Log) (h : Header) (old new : Journal D g) → HasLog g next new → IsLog log → log.next ≡ Some h → IsFinished log next h → CrashesKeep g log old.device new.device → ComesTo g old new log next
-  comes_finished log next h old new has is writing done crash =
+  pub comes_finished : (log next : Log) (h : Header) (old new : Journal D g) → HasLog g next new → IsLog log → log.next ≡ Some h → IsFinished log next h → g.clock old.device ≤ g.clock new.device → AfterSince g log old.device new.device → ComesTo g old new log next
+  comes_finished log next h old new has is writing done later since =
       let own = IfSome-at (IsNextHeader log) h writing is.next in
       record {
         has_log = has;
         goes_on = after_roll (finished_by log next h writing own.alone own.is done);
-        crash = λ c left clear. inl (crash c left (clear_by log next c done.opened done.headers done.made done.trail.segments clear));
+        later = later;
+        images = λ c left. after_past (since c left);
+        crash = λ c left clear. inl (clear_has_prefix log c is (since c left) (clear_by log next c done.opened done.headers done.made done.trail.segments clear));
       }
 
   -- the header was written, where one was being written
@@ -294,9 +310,9 @@ module _ {D : Type 0} {g : Ghosts D} where
     where
       by_cases : (o : Option Roll) → old.roll ≡ o → IsFinishedBy o log next → IfSome o (λ roll. ChangesBy (Torn (4096 * header_block roll.header.segment) 4096) g old.device new.device) → ComesTo g old new log next
       by_cases None e same by =
-          let here = comes_failed log old new (subst (λ (l : Log). HasLog g l new) same has_new) (keeps_idle log old new.device has only (idle e)) in
+          let here = comes_failed log old new (subst (λ (l : Log). HasLog g l new) same has_new) (omega (arith, ap g.clock (idle e))) (since_idle log old new.device has only (idle e)) in
           subst (λ (l : Log). ComesTo g old new log l) (sym same) here
-      by_cases (Some roll) e done by = comes_finished log next roll.header old new has_new has.is_log (written_some log.next old.roll roll has.writes e) done (keeps_writing log old new roll has e by only)
+      by_cases (Some roll) e done by = comes_finished log next roll.header old new has_new has.is_log (written_some log.next old.roll roll has.writes e) done by.later (since_writing log old new roll has e by only)
 
   -- or its write failed
   pub comes_unfinished : (log : Log) (old new : Journal D g) → HasLog g log old → HasLog g log new → (old.roll ≡ None → new.device ≡ old.device)
@@ -304,14 +320,16 @@ module _ {D : Type 0} {g : Ghosts D} where
   comes_unfinished log old new has has_new idle changes only = by_cases old.roll refl changes
     where
       by_cases : (o : Option Roll) → old.roll ≡ o → IfSome o (λ roll. ChangesBy (Torn (4096 * header_block roll.header.segment) 4096) g old.device new.device) → ComesTo g old new log log
-      by_cases None e by = comes_failed log old new has_new (keeps_idle log old new.device has only (idle e))
-      by_cases (Some roll) e by = comes_failed log old new has_new (keeps_writing log old new roll has e by only)
+      by_cases None e by = comes_failed log old new has_new (omega (arith, ap g.clock (idle e))) (since_idle log old new.device has only (idle e))
+      by_cases (Some roll) e by = comes_failed log old new has_new by.later (since_writing log old new roll has e by only)
 
   -- from a journal that nothing was done to
-  pub comes_from : (log next : Log) (old mid new : Journal D g) → mid.device ≡ old.device → ComesTo g mid new log next → ComesTo g old new log next
-  comes_from log next old mid new same comes = record {
+  pub comes_from : (log next : Log) (old mid new : Journal D g) → mid.device ≡ old.device → mid.table ≡ old.table → ComesTo g mid new log next → ComesTo g old new log next
+  comes_from log next old mid new same table comes = record {
     has_log = comes.has_log;
     goes_on = comes.goes_on;
+    later = omega (arith, comes.later, ap g.clock same);
+    images = λ c left. subst (λ (ss : List Segment). IsOnTheWay log ss c) table (comes.images c (subst (λ (d : D). g.left_since new.device (g.clock d) c) (sym same) left));
     crash = λ c left clear. comes.crash c (subst (λ (d : D). g.left_since new.device (g.clock d) c) (sym same) left) clear;
   }
 
@@ -327,7 +345,8 @@ module _ {D : Type 0} {g : Ghosts D} where
       (only : (c : List ℕ) → g.left_since first.device (g.clock first.device) c → g.may_leave first.device c)
       (syncs : let q = first.queue in ChangesBy (Torn (4096 * q.start.0) (4096 * (segment_end q.active - q.start.0))) g first.device second.device)
       (same : third.device ≡ second.device)
-      (writes : ChangesBy (Torn (4096 * header_block h.segment) 4096) g third.device last.device) where
+      (writes : ChangesBy (Torn (4096 * header_block h.segment) 4096) g third.device last.device)
+      (least : IsLeastEmpty first.table h.segment) where
     moments : (c : List ℕ) → g.left_since last.device (g.clock first.device) c → IsBehind log c ⊎ IsBeside (begun mid h) h c
     moments c left =
         let by : ChangesBy (Torn (4096 * header_block h.segment) 4096) g second.device last.device = subst (λ (d : D). ChangesBy (Torn (4096 * header_block h.segment) 4096) g d last.device) same writes in
@@ -340,10 +359,21 @@ module _ {D : Type 0} {g : Ghosts D} where
               )
         ]
 
+    on_the_way : (c : List ℕ) → g.left_since last.device (g.clock first.device) c → IsOnTheWay log first.table c
+    on_the_way c left = elim (moments c left) [
+      | inl behind ↦ after_past (of_none log c steady behind)
+      | inr beside ↦ beside_header mid step h has_begun.is_log least beside
+    ]
+
+    on : g.clock first.device ≤ g.clock last.device
+    on = omega (arith, syncs.later, ap g.clock same, writes.later)
+
     pub comes_begun : HasLog g (begun mid h) last → ComesTo g first last log (begun mid h)
     comes_begun has_last = record {
       has_log = has_last;
       goes_on = after_begin mid step h refl;
+      later = on;
+      images = on_the_way;
       crash = λ c left clear. elim (moments c left) [
         | inl behind ↦ inl (clear_behind log c has.is_log behind (rows_by log (begun mid h) c step.opened step.made step.trail.segments clear.records))
         | inr beside ↦ inr (clear_beside (begun mid h) h c has_begun.is_log refl beside clear)
@@ -356,6 +386,8 @@ module _ {D : Type 0} {g : Ghosts D} where
         record {
           has_log = has_last;
           goes_on = after_roll (rolled_by log mid next h steady step own.is done);
+          later = on;
+          images = on_the_way;
           crash = λ c left clear.
               let clear_mid = clear_by (begun mid h) next c done.opened done.headers done.made done.trail.segments clear in
               elim (moments c left) [
@@ -363,3 +395,19 @@ module _ {D : Type 0} {g : Ghosts D} where
                 | inr beside ↦ up_to_next log mid next h c step done (clear_beside (begun mid h) h c has_begun.is_log refl beside clear_mid)
               ];
         }
+
+  -- what a roll makes of the queue and the table
+  pub rolls : (first second third last : Journal D g) (segment : ℕ) → IsLeastEmpty first.table segment → Keeps first second → (begins : Begins segment second third) → BeginsAt begins.roll.header last.queue → last.table ≡ third.table → Rolls first last
+  rolls first second third last segment least keeps begins at table =
+      let header : begins.roll.header ≡ header_behind segment first.queue.seq first.queue.link =
+      begins.header ∙ ap (λ (n : ℕ). header_behind segment n second.queue.link) keeps.seq ∙ ap (header_behind segment first.queue.seq) keeps.link in
+      let active : last.queue.active ≡ segment = at.active ∙ ap (λ (h : Header). h.segment) header in
+      record {
+        least = subst (IsLeastEmpty first.table) (sym active) least;
+        queue = subst (λ (s : ℕ). BeginsAt (header_behind s first.queue.seq first.queue.link) last.queue) (sym active) (subst (λ (h : Header). BeginsAt h last.queue) header at);
+        table = table ∙ begins.table
+            ∙ ap (λ (ss : List Segment). rolled_table ss second.queue.active second.queue.seq segment) keeps.table
+            ∙ ap (λ (a : ℕ). rolled_table first.table a second.queue.seq segment) keeps.active
+            ∙ ap (λ (n : ℕ). rolled_table first.table first.queue.active n segment) keeps.seq
+            ∙ ap (rolled_table first.table first.queue.active first.queue.seq) (sym active);
+      }

@@ -1,16 +1,11 @@
 -- A journal over a device.
-use Rattle.std.specs.Prelude.{◌≡◌, ℕ, ◌<◌, List, [], ◌∷◌, Some, None}
-use Rattle.sea_base.specs.Faults.{FaultsRose}
+use Rattle.std.specs.Prelude.{◌≡◌, ℕ, ◌<◌, List, [], Some, None}
 use Rattle.sea_device.specs.declared.device.Device.{Ghosts}
 use Rattle.sea_trail.specs.Trail.{first_block}
-use Rattle.sea_trail.specs.declared.trail.Trail.{Trail}
-use Rattle.sea_journal.specs.Log.{Log, IsLog, IsAfter, IsClear, HasPrefix, Extends}
+use Rattle.sea_journal.specs.Log.{Log, IsLog, IsAfter, IsClear, HasPrefix}
 use Rattle.sea_journal.specs.Queue.{Waits}
-use Rattle.sea_journal.specs.Resume.{mount_record}
 use Rattle.sea_journal.specs.Rolls.{InTable, Writes}
 use Rattle.sea_journal.specs.declared.journal.Journal.{Journal}
-use Rattle.sea_journal.specs.declared.journal.ResumeFault.{ResumeFault}
-use Rattle.sea_journal.specs.declared.journal.ResumeFault.TheVariants.{NoMemory, DeviceFault}
 
 -- A crash leaves the bytes now and nothing else. They are the anchor, where the open segment has a
 -- record.
@@ -38,19 +33,3 @@ pub record HasLog {D : Type 0} (g : Ghosts D) (log : Log) (j : Journal D g) : Ty
 abbrev pub CrashesKeep : {D : Type 0} → Ghosts D → Log → D → D → Type 0
 CrashesKeep g log old new =
     (c : List ℕ) → g.left_since new (g.clock old) c → IsClear log c → HasPrefix log c
-
--- It has begun behind this trail of an image, with a mount record that is stable.
-pub record IsBegun {D : Type 0} (g : Ghosts D) (image : List ℕ) (t : Trail) (j : Journal D g) : Type 0 where
-  pub log : Log
-  pub has_log : HasLog g log j
-  pub opened : log.opened ≡ image
-  pub headers : log.headers ≡ []
-  pub made : log.made ≡ mount_record t ∷ []
-  pub trail : Extends t (mount_record t ∷ []) log.trail
-  pub queued : log.queued ≡ []
-  pub next : log.next ≡ None
-
--- the device is blamed where its count of faults rose, and memory where it stands still
-abbrev pub BlamesRightly : ℕ → ℕ → ResumeFault → Type 0
-BlamesRightly before now NoMemory = now ≡ before
-BlamesRightly before now DeviceFault = FaultsRose before now

@@ -9,6 +9,7 @@ pub mod Mkfs
 pub mod Padding
 pub mod Queue
 pub mod Reserve
+pub mod Opening
 pub mod Resume
 pub mod Rolls
 pub mod Room

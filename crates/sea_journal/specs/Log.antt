@@ -214,7 +214,7 @@ pub data NamesTail (log : Log) (tail : Tail) : Type 0 where
 abbrev pub pushed : Log → Record → Log
 pushed log r = record log { made = log.made ++ r ∷ []; queued = log.queued ++ r ∷ [] }
 
--- What was queued is stable.
+-- What was queued is stable. With an empty queue nothing changed.
 pub record IsSynced (old new : Log) : Type 0 where
   pub opened : new.opened ≡ old.opened
   pub headers : new.headers ≡ old.headers
@@ -223,6 +223,7 @@ pub record IsSynced (old new : Log) : Type 0 where
   pub stand : new.trail.headers ≡ old.trail.headers
   pub queued : new.queued ≡ []
   pub next : new.next ≡ old.next
+  pub still : old.queued ≡ [] → new ≡ old
 
 -- the past with a header that is being written
 abbrev pub begun : Log → Header → Log
@@ -239,6 +240,7 @@ pub record IsRolled (old new : Log) : Type 0 where
   pub made : new.made ≡ old.made
   pub stable : Trail
   pub extends : Extends old.trail old.queued stable
+  pub still : old.queued ≡ [] → stable ≡ old.trail
   pub header : Header
   pub is : header ≡ header_behind header.segment stable.seq (trail_link stable)
   pub headers : WithHeader old.next header old.headers new.headers

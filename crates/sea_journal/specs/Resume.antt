@@ -12,12 +12,12 @@ use Rattle.sea_trail.specs.declared.link.Link.{Link}
 use Rattle.sea_trail.specs.declared.trail.Trail.{Trail}
 use Rattle.sea_journal.specs.Log.{Log, pushed}
 
--- the segments are on a device of so many blocks, and the open one has a block left
+-- the segments are on a device of so many blocks, and the trail ends in the open one
 pub record HasRoom (t : Trail) (size : ℕ) : Type 0 where
   pub few : t.segments ≤ 8191
   pub active : t.active < t.segments
   pub from : first_block t.active ≤ t.end.0
-  pub rest : t.end.0 < segment_end t.active
+  pub upto : t.end.0 ≤ segment_end t.active
   pub room : blocks_needed t.segments ≤ size
 
 -- no number is used up
@@ -70,5 +70,5 @@ opened image t =
     record { opened = image; headers = []; made = []; anchor = image; trail = t; queued = []; next = None }
 
 -- and once its mount record waits
-abbrev pub mounted : List ℕ → Trail → Log
-mounted image t = pushed (opened image t) (mount_record t)
+abbrev pub mounted : Log → Log
+mounted start = pushed start (mount_record start.trail)

@@ -13,8 +13,8 @@ const END_OF_NUMBERS: u64 = 1 << 63;
 // A number that is no less is used up.
 const END_OF_USE: u64 = 1 << 62;
 
-/// Whether a journal can go on behind this trail on a device of so many blocks: its open segment
-/// has a block left, and none of its numbers is used up.
+/// Whether a journal can go on behind this trail on a device of so many blocks: it ends in its open
+/// segment, and none of its numbers is used up.
 pub fn can_resume(trail: &Trail, blocks: u32) -> bool
     ensures { IsTrue result ↔ CanResume trail.now blocks }
 {
@@ -28,7 +28,7 @@ fn has_fields(trail: &Trail) -> bool
     is_tail(&trail.tail) && is_root(&trail.root)
 }
 
-// Whether the segments are on the device, and the open one has a block left.
+// Whether the segments are on the device, and the trail ends in the open one.
 fn has_room(trail: &Trail, blocks: u32) -> bool
     ensures { IsTrue result ↔ HasRoom trail.now blocks }
 {
@@ -37,7 +37,7 @@ fn has_room(trail: &Trail, blocks: u32) -> bool
     }
     let first = first_block(trail.active);
     let end = first + (SEGMENT_BLOCKS - 1);
-    first <= trail.end.0 && trail.end.0 < end && blocks_needed(trail.segments) <= blocks
+    first <= trail.end.0 && trail.end.0 <= end && blocks_needed(trail.segments) <= blocks
 }
 
 // Whether none of its numbers is used up.

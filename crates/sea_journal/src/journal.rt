@@ -29,6 +29,43 @@ pub enum ResumeFault {
     /// A call of the device failed.
     #[error("device fault")]
     DeviceFault,
+    /// The open segment has no block left for the mount record, and no segment is empty.
+    #[error("no space")]
+    NoSpace,
+}
+
+impl From<NoMemory> for ResumeFault {
+    ghost use Rattle.sea_journal.specs.declared.journal.ResumeFault.TheVariants.{NoMemory};
+
+    ghost from_gives = { λ _ fault. fault ≡ NoMemory };
+
+    fn from(_: NoMemory) -> Self {
+        ResumeFault::NoMemory
+    }
+}
+
+impl From<Failed> for ResumeFault {
+    ghost use Rattle.sea_journal.specs.declared.journal.ResumeFault.TheVariants.{DeviceFault};
+
+    ghost from_gives = { λ _ fault. fault ≡ DeviceFault };
+
+    fn from(_: Failed) -> Self {
+        ResumeFault::DeviceFault
+    }
+}
+
+impl From<ReserveFault> for ResumeFault {
+    ghost use Rattle.sea_journal.specs.Opening.{resume_fault};
+
+    ghost from_gives = { λ fault made. made ≡ resume_fault fault };
+
+    fn from(fault: ReserveFault) -> Self {
+        match fault {
+            ReserveFault::NoRoom { .. } => ResumeFault::NoSpace,
+            ReserveFault::DeviceFault => ResumeFault::DeviceFault,
+            ReserveFault::NoMemory => ResumeFault::NoMemory,
+        }
+    }
 }
 
 /// Why no place was reserved.
@@ -44,6 +81,9 @@ pub enum ReserveFault {
     #[error("no memory")]
     NoMemory,
 }
+
+// How many blocks a mount record takes.
+const MOUNT_BLOCKS: u32 = 1;
 
 /// A journal: records go one behind the other into the open segment of a device. `reserve` finds
 /// room for the next one, `push` queues it, and `sync` writes what is queued and makes it stable.
@@ -62,26 +102,29 @@ pub struct Journal<D: Device> {
 }
 
 impl<D: Device> Journal<D> {
-    ghost use Rattle.std.specs.Prelude.{ℕ, ◌+◌, ◌-◌, ◌*◌, ◌^◌, List, Some, None, IfErr, IsOk, OnOk, OnErr, MatchResult};
+    ghost use Rattle.std.specs.Prelude.{ℕ, ◌+◌, ◌-◌, ◌*◌, ◌^◌, List, [], Some, None, IfErr, IsOk, OnOk, OnErr, MatchResult};
     ghost use Rattle.sea_device.specs.Device.{Torn};
     ghost use Rattle.sea_base.specs.Faults.{FaultsRose};
     ghost use Rattle.sea_record.specs.Record.{IsRecord, blocks};
     ghost use Rattle.sea_segment.specs.State.{IsClosedBefore};
-    ghost use Rattle.sea_segment.specs.Table.{IsEmpty, empty_of, live_of, state_of, with_live, with_state};
+    ghost use Rattle.sea_segment.specs.Table.{IsEmpty, IsLeastEmpty, empty_of, live_of, state_of, with_live, with_state};
     ghost use Rattle.sea_segment.specs.declared.state.SegState.TheVariants.{Empty};
     ghost use Rattle.sea_trail.specs.Trail.{IsTrail, block_of, first_block as first, header_block as header_of};
     ghost use Rattle.sea_device.specs.Calls.{OnlyRead};
     ghost use Rattle.sea_journal.specs.Blocks.{IsNotGiven, IsSumOf, IsUnread, image_now};
     ghost use Rattle.sea_journal.specs.Changes.{ChangesBy, CountsFaults};
-    ghost use Rattle.sea_journal.specs.Journal.{HasLog, CrashesKeep, IsBegun, BlamesRightly};
-    ghost use Rattle.sea_journal.specs.Queue.{BeginsBehind};
+    ghost use Rattle.sea_journal.specs.Journal.{HasLog, CrashesKeep};
     ghost use Rattle.sea_journal.specs.Log.{Log, HasNoneAt, IsClear, IsSynced, NamesTail, pushed};
-    ghost use Rattle.sea_journal.specs.Reserve.{Begins, ComesTo, IsFinishedBy, IsReady, IsRollFault, IsSame, IsUnready, Keeps, TakesIn};
-    ghost use Rattle.sea_journal.specs.Resume.{CanResume, record_behind, mount_record, mounted, opened};
+    ghost use Rattle.sea_journal.specs.Reserve.{Begins, ComesTo, IsFinishedBy, IsReady, IsRollFault, IsSame, IsUnready, Keeps, Rolls, TakesIn};
+    ghost use Rattle.sea_journal.specs.Opening.{HasSpace, IsBegun, IsFound, IsNotBegun, KeepsFound, MayMount};
+    ghost use Rattle.sea_journal.specs.Resume.{CanResume, opened, record_behind};
+    ghost use Rattle.sea_journal.specs.declared.journal.ResumeFault.TheVariants.{NoSpace};
+    ghost use Rattle.sea_journal.specs.declared.room.Who.TheVariants.{Mount};
     ghost use Rattle.sea_journal.specs.Rolls.{BeginsAt, InTable, rest_of, seq_of};
 
     /// Goes on behind the trail of a device, which was synced before it was read: writes a mount
-    /// record and syncs it. Where it fails it hands the device back.
+    /// record and syncs it. Where the open segment is full it opens the least empty one first.
+    /// Where it fails it hands the device back.
     pub fn resume(
         alloc: Global,
         device: D,
@@ -90,19 +133,18 @@ impl<D: Device> Journal<D> {
     ) -> Result<Journal<D>, (D, ResumeFault)>
         requires can { CanResume trail.now (D.size device) }
         requires table { length table ≡ trail.now.segments }
-        ensures begun { (image : List ℕ) → D.contents device ≡ Some image → IsTrail image trail.now
-            → ((c : List ℕ) → D.may_leave device c → c ≡ image)
-            → InTable (opened image trail.now) table
-            → IfOk result (λ j. IsBegun D.Device image trail.now j) }
-        // A clear image of a crash within the call has the trail that was found, and then the mount
-        // record or not.
-        ensures crash { (image : List ℕ) → D.contents device ≡ Some image → IsTrail image trail.now
-            → ((c : List ℕ) → D.may_leave device c → c ≡ image)
-            → InTable (opened image trail.now) table
+        ensures begun { (image : List ℕ) → IsFound D.Device image trail.now table device
+            → IfOk result (IsBegun D.Device (opened image trail.now) table) }
+        // A clear image of a crash within the call has the trail that was found, then the header of
+        // a segment where one was opened, and then the mount record, or a prefix of these.
+        ensures crash { (image : List ℕ) → IsFound D.Device image trail.now table device
             → MatchResult result
-            (λ j. CrashesKeep D.Device (mounted image trail.now) device j.device)
-            (λ e. CrashesKeep D.Device (mounted image trail.now) device e.0) }
-        ensures cause { IfErr result (λ e. BlamesRightly (D.faults device) (D.faults e.0) e.1) }
+            (λ j. KeepsFound D.Device (opened image trail.now) table device j.device)
+            (λ e. KeepsFound D.Device (opened image trail.now) table device e.0) }
+        ensures cause { MatchResult result
+            (λ j. HasSpace trail.now table × (D.faults j.device ≡ D.faults device))
+            (λ e. IsNotBegun (HasSpace trail.now table) (D.faults device) (D.faults e.0) e.1) }
+        ensures untouched { IfErr result (λ e. e.1 ≡ NoSpace → e.0 ≡ device) }
     {
         let queue = Queue::behind(alloc, trail);
         let mut journal = Journal {
@@ -111,26 +153,30 @@ impl<D: Device> Journal<D> {
             queue,
             roll: None,
         };
-        if journal.push_mount(alloc, trail).is_err() {
-            return Err((journal.close(), ResumeFault::NoMemory));
+        match journal.add_mount(alloc) {
+            Ok(()) => Ok(journal),
+            Err(fault) => Err((journal.close(), fault)),
         }
-        if journal.sync().is_err() {
-            return Err((journal.close(), ResumeFault::DeviceFault));
-        }
-        Ok(journal)
     }
 
-    // Queues the mount record behind a trail.
-    fn push_mount(&mut self, alloc: Global, trail: &Trail) -> Result<(), NoMemory>
-        requires can { CanResume trail.now (D.size self.old.device) }
+    // Adds a mount record behind a trail, and makes it stable.
+    fn add_mount(&mut self, alloc: Global) -> Result<(), ResumeFault>
         requires ready { self.old.roll ≡ None }
-        requires behind { BeginsBehind trail.now self.old.queue }
-        ensures ok { (log : Log) → HasLog D.Device log self.old → NamesTail log trail.now.tail
-            → OnOk result (HasLog D.Device (pushed log (mount_record trail.now)) self.new) }
-        ensures device { self.new.device ≡ self.old.device }
+        requires numbers { MayMount self.old.queue }
+        ensures begun { (log : Log) → HasLog D.Device log self.old → log.queued ≡ []
+            → OnOk result (IsBegun D.Device log self.old.table self.new) }
+        ensures crash { (log : Log) → HasLog D.Device log self.old → log.queued ≡ []
+            → KeepsFound D.Device log self.old.table self.old.device self.new.device }
+        ensures cause { MatchResult result
+            (λ _. TakesIn Mount 1 self.old × (D.faults self.new.device ≡ D.faults self.old.device))
+            (IsNotBegun (TakesIn Mount 1 self.old) (D.faults self.old.device)
+            (D.faults self.new.device)) }
+        ensures untouched { IfErr result (λ e. e ≡ NoSpace → self.new.device ≡ self.old.device) }
     {
+        self.reserve(MOUNT_BLOCKS, Who::Mount)?;
         let body = mount_body(alloc)?;
-        self.push(body, trail.tail, trail.root)?;
+        self.push(body, self.queue.link.tail, self.queue.link.root)?;
+        self.sync()?;
         Ok(())
     }
 
@@ -153,9 +199,10 @@ impl<D: Device> Journal<D> {
         ensures log { (log : Log) → HasLog D.Device log self.old
             → (next : Log) × ComesTo D.Device self.old self.new log next }
         ensures place { IfOk result (λ at. IsReady need at.0 self.old self.new) }
-        ensures taken { IsOk result → TakesIn who need self.old }
+        ensures taken { IfOk result (λ _. TakesIn who need self.old
+            × (D.faults self.new.device ≡ D.faults self.old.device)) }
         ensures fault { IfErr result (IsUnready who need (D.faults self.old.device)
-            (D.faults self.new.device) self.old) }
+            (D.faults self.new.device) self.old self.new) }
     {
         if self.finish().is_err() {
             return Err(ReserveFault::DeviceFault);
@@ -179,14 +226,14 @@ impl<D: Device> Journal<D> {
     fn roll(&mut self, segment: u32) -> Result<(), ReserveFault>
         requires none { self.old.roll ≡ None }
         requires some { first self.old.queue.active < self.old.queue.place.0 }
-        requires empty { IsEmpty self.old.table segment }
+        requires least { IsLeastEmpty self.old.table segment }
         requires number { self.old.queue.seq < 2 ^ 62 + 2 ^ 49 }
         ensures log { (log : Log) → HasLog D.Device log self.old
             → (next : Log) × ComesTo D.Device self.old self.new log next }
-        ensures opened { OnOk result ((self.new.roll ≡ None)
-            × (self.new.queue.active ≡ segment) × (self.new.queue.place.0 ≡ first segment)) }
-        ensures fault { IfErr result (λ fault. IsRollFault (D.faults self.old.device)
-            (D.faults self.new.device) fault) }
+        ensures opened { OnOk result ((self.new.roll ≡ None) × Rolls self.old self.new) }
+        ensures fault { MatchResult result
+            (λ _. D.faults self.new.device ≡ D.faults self.old.device)
+            (IsRollFault (D.faults self.old.device) (D.faults self.new.device)) }
     {
         if self.sync().is_err() {
             return Err(ReserveFault::DeviceFault);
@@ -258,7 +305,8 @@ impl<D: Device> Journal<D> {
             self.old.queue.seq self.old.queue.link body tail root)) self.new) }
         ensures err { (log : Log) → HasLog D.Device log self.old
             → OnErr result (HasLog D.Device log self.new) }
-        ensures device { self.new.device ≡ self.old.device }
+        ensures others { (self.new.device ≡ self.old.device) × (self.new.table ≡ self.old.table)
+            × (self.new.roll ≡ self.old.roll) }
         ensures commit { IfOk result (λ commit. commit.0 ≡ self.old.queue.link.commit.0 + 1) }
     {
         self.queue.push(body, tail, root)
@@ -268,7 +316,7 @@ impl<D: Device> Journal<D> {
     /// a fault the queue stays.
     pub fn sync(&mut self) -> Result<(), Failed>
         ensures idle { self.old.queue.place ≡ self.old.queue.start
-            → (result ≡ Ok tt) × (self.new.device ≡ self.old.device) }
+            → (result ≡ Ok tt) × IsSame self.old self.new }
         ensures ok { (log : Log) → HasLog D.Device log self.old → OnOk result
             ((new : Log) × HasLog D.Device new self.new × IsSynced log new) }
         ensures err { (log : Log) → HasLog D.Device log self.old

@@ -48,7 +48,7 @@ returns-in_err-roll-clause-log g c = λ log has.
     let none : j.roll ≡ None = whole_rest j.roll c.finish.new.self.queue c.rest-rest.result c.args.need opened.1 c.rest-rest.ensures c.if-need-rest.false c.requires.need in
     let same = (c.finish.ensures.idle none).1 in
     let there = c.roll.ensures.log log (has_as_before log j c.finish.new.self has same.queue same.device same.table same.roll) in
-    (there.0, comes_from log there.0 j c.finish.new.self c.roll.new.self same.device there.1)
+    (there.0, comes_from log there.0 j c.finish.new.self c.roll.new.self same.device same.table there.1)
 
 pub returns-clause-log : goal.returns-clause-log
 returns-clause-log g c = λ log has.
@@ -57,7 +57,7 @@ returns-clause-log g c = λ log has.
     let none : j.roll ≡ None = whole_rest j.roll c.finish.new.self.queue c.rest-rest.result c.args.need opened.1 c.rest-rest.ensures c.if-need-rest.false c.requires.need in
     let same = (c.finish.ensures.idle none).1 in
     let there = c.roll.ensures.log log (has_as_before log j c.finish.new.self has same.queue same.device same.table same.roll) in
-    (there.0, comes_from log there.0 j c.finish.new.self c.roll.new.self same.device there.1)
+    (there.0, comes_from log there.0 j c.finish.new.self c.roll.new.self same.device same.table there.1)
 
 pub roll-requires-clause-number : goal.roll-requires-clause-number
 roll-requires-clause-number g c =
