@@ -1,15 +1,15 @@
 -- What the definitions hold of, and what they refuse.
-use Rattle.std.proofs.Common.{◌≡◌, ℕ, zero, suc, List, [], ◌∷◌, Option, Some, None, inl, refl, arith, ◌∙◌, sym}
+use Rattle.std.proofs.Common.{◌≡◌, ℕ, zero, suc, List, [], ◌∷◌, Some, None, inl, refl, arith, ◌∙◌, sym}
 use Rattle.std.specs.FinMap as map
 use Rattle.std.specs.FinMap.{get-empty}
 use Rattle.sea_base.specs.Field.{big_endian}
 use Rattle.sea_base.specs.Space.{Store}
 use Rattle.sea_node.specs.Entries.{key_order}
 use Rattle.sea_object.specs.declared.onode.Onode.{Onode}
-use Rattle.sea_tree.specs.Content.{Leads, HasContent}
-use Rattle.sea_onode.specs.Onodes.{Onodes, HasOnodes}
+use Rattle.sea_tree.specs.Content.{Leads}
+use Rattle.sea_onode.specs.Onodes.{Onodes}
 use Rattle.sea_onode.specs.Order.{AreInOrder}
-use Rattle.sea_onode.specs.Spelling.{IsValueOf, onode_bytes}
+use Rattle.sea_onode.specs.Spelling.{onode_bytes}
 
 pub five_bytes : onode_bytes (record { base = record { 0 = 2 }; size = 5; attrs = 0; keys = 0 }) ≡ 0 ∷ 0 ∷ 0 ∷ 0 ∷ 0 ∷ 0 ∷ 0 ∷ 2 ∷ 0 ∷ 0 ∷ 0 ∷ 5 ∷ 0 ∷ 0 ∷ 0 ∷ 0 ∷ 0 ∷ 0 ∷ 0 ∷ 0 ∷ []
 unfolding onode_bytes big_endian

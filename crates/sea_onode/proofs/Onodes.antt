@@ -1,5 +1,5 @@
 -- Values of a tree, and the onodes that they spell.
-use Rattle.std.proofs.Common.{◌≡◌, ◌⊎◌, inl, inr, ℕ, zero, suc, Bool, true, false, cond, List, [], ◌∷◌, ◌++◌, ◌<◌, length, get_or, Option, Some, None, map as each, take, refl, sym, ap, subst, ◌∙◌, arith}
+use Rattle.std.proofs.Common.{◌≡◌, ◌⊎◌, inl, inr, ℕ, zero, suc, Bool, true, false, cond, List, [], ◌∷◌, Option, Some, None, map as each, take, refl, sym, ap, subst, ◌∙◌}
 use Rattle.std.specs.Prelude.{T, ◌&&◌, filter, option_map}
 use Rattle.std.specs.Ordering.{eq_by_cmp, is_lt, is_eq}
 use Rattle.std.specs.declared.cmp.Ordering.{Ordering}
@@ -14,7 +14,7 @@ use Rattle.sea_object.specs.Objects.{is_after}
 use Rattle.sea_object.proofs.Order.{keys-filter}
 use Rattle.sea_tree.specs.Calls.{pairs_above}
 use Rattle.sea_onode.specs.Onodes.{Onodes, AreSpelled, first_names}
-use Rattle.sea_onode.specs.Spelling.{Spells, SpellNone, IsValueOf, onode_bytes}
+use Rattle.sea_onode.specs.Spelling.{Spells, IsValueOf, onode_bytes}
 use Rattle.sea_onode.proofs.Spelling.{same_onode}
 
 -- ---- one value

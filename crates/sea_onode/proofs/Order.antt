@@ -1,14 +1,13 @@
 -- Objects in order stay so where a change of the onode tree leaves them.
-use Rattle.std.proofs.Common.{◌≡◌, ◌≢◌, ◌⊎◌, inl, inr, ℕ, ◌+◌, ◌*◌, ◌<◌, ◌≤◌, List, Option, Some, None, refl, sym, ap, subst, ◌∙◌, arith}
+use Rattle.std.proofs.Common.{◌≡◌, ◌≢◌, ◌⊎◌, inl, inr, ℕ, ◌+◌, ◌<◌, ◌≤◌, List, Option, Some, None, refl, sym, subst, ◌∙◌, arith}
 use Rattle.std.proofs.lemmas.Bool.{cases_lt}
 use Rattle.std.specs.FinMap as map
 use Rattle.sea_base.specs.Space.{Store, Seen, laid}
 use Rattle.sea_node.specs.Entries.{Values}
 use Rattle.sea_object.specs.declared.onode.Onode.{Onode}
 use Rattle.sea_tree.specs.Calls.{Becomes}
-use Rattle.sea_tree.specs.Tree.{IsNodeOf}
 use Rattle.sea_tree.proofs.Apart.{IsNodeOf-filled}
-use Rattle.sea_onode.specs.Onodes.{Onodes, AreSpelled, HasOnodes}
+use Rattle.sea_onode.specs.Onodes.{Onodes, AreSpelled}
 use Rattle.sea_onode.specs.Order.{IsInOrder, IsInRange, AreInOrder, Fits}
 use Rattle.sea_onode.proofs.Onodes.{inserted, not_removed}
 

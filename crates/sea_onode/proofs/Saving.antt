@@ -1,9 +1,8 @@
 -- A change of the onode tree behind reads of the path to its name.
-use Rattle.std.proofs.Common.{◌≡◌, ◌≢◌, ◌⊎◌, inl, inr, ℕ, ◌≤◌, ◌<◌, List, [], ◌∷◌, ◌++◌, Option, Some, None, MatchOption, refl, sym, ap, subst, ◌∙◌, arith}
+use Rattle.std.proofs.Common.{◌≡◌, ◌⊎◌, inl, inr, ℕ, ◌≤◌, ◌<◌, List, [], ◌∷◌, ◌++◌, Option, Some, None, MatchOption, sym, ap, subst, ◌∙◌, arith}
 use Rattle.std.specs.FinMap as map
 use Rattle.sea_base.specs.declared.delta.Delta.{Delta}
 use Rattle.sea_base.specs.Space.{Store, Seen, Agrees, OnlyRead, laid}
-use Rattle.sea_base.proofs.Spaces.{only_read-trans, agrees_before}
 use Rattle.sea_node.specs.Entries.{Values}
 use Rattle.sea_object.specs.declared.onode.Onode.{Onode}
 use Rattle.sea_tree.specs.declared.fault.TreeFault.{TreeFault}
@@ -13,14 +12,14 @@ use Rattle.sea_tree.specs.Content.{HasContent}
 use Rattle.sea_tree.specs.Calls as tree
 use Rattle.sea_tree.specs.Does.{ChangesAtMost, SplicesOnce, IsAsBefore}
 use Rattle.sea_tree.specs.Form.{HasForm, HasFirst}
-use Rattle.sea_tree.specs.Reads.{IsNearPath, IsOnPath, ReadsPath}
+use Rattle.sea_tree.specs.Reads.{IsNearPath, ReadsPath}
 use Rattle.sea_tree.specs.Tree.{IsNodeOf, AreApart, root_bounds}
 use Rattle.sea_tree.proofs.Apart.{IsNodeOf-root, few_levels}
 use Rattle.sea_tree.proofs.Puts.{planned_fails}
 use Rattle.sea_tree.proofs.Walks.{one_store}
-use Rattle.sea_onode.specs.Calls.{Meets, Becomes, Saves, Erases, SaveForm, EraseForm, IsPut, IsFindFault, IsNoOnode}
-use Rattle.sea_onode.specs.Onodes.{Onodes, AreSpelled}
-use Rattle.sea_onode.specs.Spelling.{Spells, IsValueOf, onode_bytes}
+use Rattle.sea_onode.specs.Calls.{Meets, Saves, Erases, SaveForm, EraseForm, IsFindFault, IsNoOnode}
+use Rattle.sea_onode.specs.Onodes.{Onodes}
+use Rattle.sea_onode.specs.Spelling.{Spells, IsValueOf}
 use Rattle.sea_onode.proofs.Onodes.{same_value, value_bytes, spelled-insert, spelled-remove, spelled-again}
 use Rattle.sea_onode.proofs.Order.{order-insert, order-remove}
 

@@ -11,7 +11,7 @@ use Rattle.sea_tree.specs.Calls as tree
 use Rattle.sea_tree.specs.Faults.{Blames}
 use Rattle.sea_tree.specs.Form.{HasForm, HasFirst}
 use Rattle.sea_tree.specs.Reads.{ReadsPath, ReadsRange}
-use Rattle.sea_onode.specs.Spelling.{Spells, SpellNone, IsValueOf, onode_bytes}
+use Rattle.sea_onode.specs.Spelling.{SpellNone, IsValueOf, onode_bytes}
 use Rattle.sea_onode.specs.Onodes.{Onodes, AreSpelled, HasOnodes}
 use Rattle.sea_onode.specs.Order.{AreInOrder, Fits}
 

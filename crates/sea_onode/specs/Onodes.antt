@@ -1,5 +1,5 @@
 -- The onodes of a store, under the names of their objects.
-use Rattle.std.specs.Prelude.{◌≡◌, ℕ, List, filter, take, Option}
+use Rattle.std.specs.Prelude.{ℕ, List, filter, take, Option}
 use Rattle.std.specs.FinMap as map
 use Rattle.sea_base.specs.Space.{Store}
 use Rattle.sea_node.specs.Entries.{Values, key_order}

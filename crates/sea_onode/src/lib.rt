@@ -12,3 +12,6 @@ pub use value::{OBJECT_ADDRESSES, new_onode, read_onode, spell_onode};
 
 /// The root of the onode tree.
 pub const ONODE_ROOT: Laddr = Laddr(1);
+
+#[cfg(test)]
+mod tests;

@@ -1,4 +1,4 @@
-use Rattle.std.proofs.Common.{ℕ, List, ap, ◌∙◌, map as each}
+use Rattle.std.proofs.Common.{ap, ◌∙◌, map as each}
 use Rattle.std.specs.Option.{option_copied}
 use Rattle.sea_node.specs.Entries.{Entry}
 use Rattle.sea_onode.proofs.Onodes.{names_listed}

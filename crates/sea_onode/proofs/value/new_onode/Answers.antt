@@ -1,4 +1,4 @@
-use Rattle.std.proofs.Common.{◌≡◌, refl, arith}
+use Rattle.std.proofs.Common.{refl, arith}
 use Rattle.sea_onode.proofs.Order.{order-later, new_fits}
 use Rattle.sea_onode.proofs.value.new_onode.Goals as goal
 

@@ -1,6 +1,4 @@
-use Rattle.std.proofs.Common.{◌≡◌, ap, ◌∙◌, Some, length, arith}
-use Rattle.sea_object.specs.declared.onode.Onode.{Onode}
-use Rattle.sea_onode.specs.Spelling.{Spells}
+use Rattle.std.proofs.Common.{ap, ◌∙◌, Some, length, arith}
 use Rattle.sea_onode.proofs.Spelling.{length-onode_bytes, onode_read, same_onode}
 use Rattle.sea_onode.proofs.value.read_onode.Goals as goal
 
