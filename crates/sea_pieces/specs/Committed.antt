@@ -27,7 +27,8 @@ plain_object bytes = record { bytes = bytes; attributes = map.empty; omap = map.
 -- the objects of these versions
 abbrev pub objects_of : List (List ℕ × Version) → ObjectMap
 objects_of [] = map.empty
-objects_of (entry ∷ entries) = map.insert (objects_of entries) entry.0 (plain_object entry.1.content)
+objects_of (entry ∷ entries) =
+    map.insert (objects_of entries) entry.0 (plain_object entry.1.content)
 
 abbrev pub objects_in : VersionMap → ObjectMap
 objects_in versions = objects_of (map.entries versions)

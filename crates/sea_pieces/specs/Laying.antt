@@ -1,6 +1,6 @@
 -- What pieces make of objects, and which pieces an operation is.
 use Rattle.std.specs.Prelude.{◌≡◌, ℕ, List, [], ◌∷◌, Option, Some, None, unwrap_or}
-use Rattle.std.specs.List.{flat_map, AllByRecursion}
+use Rattle.std.specs.List.{flat_map}
 use Rattle.std.specs.FinMap as map
 use Rattle.sea_object.specs.declared.op.Op.{Op}
 use Rattle.sea_object.specs.declared.op.Op.TheVariants.{Touch, Write, Read, Stat}
@@ -57,7 +57,3 @@ read_name _ = None
 abbrev pub SharesRead : Option (List ℕ) → ObjectMap → ObjectMap → Type 0
 SharesRead None objects others = Unit {0}
 SharesRead (Some name) objects others = map.get objects name ≡ map.get others name
-
--- they share each object that the operations read
-abbrev pub SharesReads : List Op → ObjectMap → ObjectMap → Type 0
-SharesReads ops objects others = AllByRecursion (λ op. SharesRead (read_name op) objects others) ops

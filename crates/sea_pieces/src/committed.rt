@@ -1,5 +1,5 @@
 //! The committed objects, with their versions.
-ghost use Rattle.std.specs.Prelude.{◌≡◌, ◌≤◌, length, Some, option_map, unwrap_or, IfOk, IfSome, OnOk, OnErr};
+ghost use Rattle.std.specs.Prelude.{◌≡◌, ◌≤◌, length, IfOk, IfSome, OnOk, OnErr};
 ghost use Rattle.std.specs.Option.{option_copied};
 ghost use Rattle.sea_pieces.specs.Laying.{after_piece, laid};
 ghost use Rattle.sea_pieces.specs.Spelling.{IsPiece};
@@ -89,7 +89,8 @@ impl Committed {
     pub fn lay(&mut self, commit: Commit, piece: &Piece) -> Result<(), NoMemory>
         requires { IsPiece piece.now }
         ensures ok { OnOk result (self.new ≡ with_piece commit piece.now self.old) }
-        ensures objects { OnOk result (objects_in self.new ≡ after_piece piece.now (objects_in self.old)) }
+        ensures objects { OnOk result
+            (objects_in self.new ≡ after_piece piece.now (objects_in self.old)) }
         ensures err { OnErr result (self.new ≡ self.old) }
     {
         if let Some(version) = self.versions.get_mut(&piece.name) {

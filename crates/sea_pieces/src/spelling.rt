@@ -1,9 +1,11 @@
 //! Pieces spelled as bytes, and read from them.
-ghost use Rattle.std.specs.Prelude.{◌≡◌, List, Some, ◌+◌, ◌^◌, ◌<◌, ◌≤◌, ◌↔◌, ◌++◌, IfOk, OnOk, IsTrue, MatchOption};
+ghost use Rattle.std.specs.Prelude.{◌≡◌, ◌+◌, ◌^◌, ◌<◌, ◌≤◌, ◌↔◌, ◌++◌, List, Some};
+ghost use Rattle.std.specs.Prelude.{IfOk, OnOk, IsTrue, MatchOption};
 ghost use Rattle.std.specs.List.{AllByRecursion};
 ghost use Rattle.sea_pieces.specs.declared.piece.Piece.{Piece};
 ghost use Rattle.sea_pieces.specs.Spelling.{IsPiece, piece_bytes, spelling};
-ghost use Rattle.sea_pieces.specs.Spelling.{BeginsWithPiece, BeginsWithNoPiece, ArePieces, AreNoPieces};
+ghost use Rattle.sea_pieces.specs.Spelling.{BeginsWithPiece, BeginsWithNoPiece};
+ghost use Rattle.sea_pieces.specs.Spelling.{ArePieces, AreNoPieces};
 
 use crate::{Piece, Pieces};
 use sea_base::{Data, Name, NameFault, NoMemory, push_u32, u32_at};
@@ -57,7 +59,8 @@ pub fn read_pieces(alloc: Global, bytes: &[u8]) -> Result<Option<Pieces>, NoMemo
 // The piece that a prefix of the bytes spells, and the bytes behind it.
 fn read_piece(alloc: Global, bytes: &[u8]) -> Result<Option<(Piece, &[u8])>, NoMemory>
     ensures { IfOk result (λ found.
-        MatchOption found (BeginsWithNoPiece bytes.now) (λ x. BeginsWithPiece bytes.now x.0 x.1.now)) }
+        MatchOption found (BeginsWithNoPiece bytes.now)
+        (λ x. BeginsWithPiece bytes.now x.0 x.1.now)) }
 {
     let name_len = match bytes {
         [] => return Ok(None),

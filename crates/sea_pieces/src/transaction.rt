@@ -1,12 +1,14 @@
 //! Open transactions.
-ghost use Rattle.std.specs.Prelude.{◌≡◌, ◌≤◌, ◌∷◌, [], ◌++◌, List, length, Some, None, option_map, unwrap_or, IfOk, OnOk, OnErr};
+ghost use Rattle.std.specs.Prelude.{◌≡◌, ◌∷◌, [], ◌++◌, List, Some, option_map, unwrap_or};
+ghost use Rattle.std.specs.Prelude.{IfOk, OnOk};
 ghost use Rattle.std.specs.List.{AllByRecursion};
 ghost use Rattle.std.specs.FinMap as map;
 ghost use Rattle.sea_object.specs.declared.op.Op.{Op};
 ghost use Rattle.sea_object.specs.Answer.{effects, item};
 ghost use Rattle.sea_object.specs.Objects.{ObjectMap};
 ghost use Rattle.sea_object.specs.Op.{IsWithinLimits};
-ghost use Rattle.sea_pieces.specs.Laying.{IsServed, SharesRead, after_piece, after_pieces, laid, op_pieces, read_name};
+ghost use Rattle.sea_pieces.specs.Laying.{IsServed, SharesRead, after_piece, after_pieces, laid};
+ghost use Rattle.sea_pieces.specs.Laying.{op_pieces, read_name};
 ghost use Rattle.sea_pieces.specs.Committed.{objects_in, plain_object};
 ghost use Rattle.sea_pieces.specs.Spelling.{IsPiece};
 ghost use Rattle.sea_pieces.specs.Reads.{read_item, size_item};
@@ -18,8 +20,8 @@ use sea_object::{Item, Items, Op};
 use std::alloc::Global;
 use std::marker::Model;
 
-/// An open transaction: the items of the operations that it has done, and the pieces that its commit
-/// lays over the committed objects.
+/// An open transaction: the items of the operations that it has done, and the pieces that its
+/// commit lays over the committed objects.
 #[derive(Debug, Drop)]
 pub struct Transaction {
     alloc: Global,
@@ -71,9 +73,9 @@ impl Transaction {
         self.pieces.items()
     }
 
-    /// Does an operation on the committed objects with the transaction's own changes over them. It is
-    /// right on all objects that have the same where it read the committed ones. After want of memory
-    /// the transaction is to be given up.
+    /// Does an operation on the committed objects with the transaction's own changes over them. It
+    /// is right on all objects that have the same where it read the committed ones. After want of
+    /// memory the transaction is to be given up.
     pub fn exec(&mut self, committed: &Committed, op: &Op) -> Result<(), NoMemory>
         requires served { IsServed op.now }
         requires limits { IsWithinLimits op.now }
