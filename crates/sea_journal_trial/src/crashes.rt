@@ -3,7 +3,7 @@
 use crate::disk::{Call, Disk};
 use crate::fault::TrialFault;
 use crate::past::Past;
-use crate::running::{Run, Step};
+use crate::running::{BLOCKS, Run, Step};
 use Step::{Free, Own, Push, Roll, Sync};
 use sea_trail::{ImageWhy, ScanFault, scan};
 use std::alloc::Global;
@@ -116,7 +116,7 @@ struct Replay {
 /// Runs the journal, crashes it within each write with each choice of up to so many blocks lost, and
 /// scans what the crash leaves.
 pub fn crash_each_write(alloc: Global, lost: u32) -> Result<Report, TrialFault> {
-    let mut run = Run::new(alloc)?;
+    let mut run = Run::new(alloc, Disk::new(alloc, BLOCKS, 0)?)?;
     for step in STEPS {
         run.step(step)?;
     }

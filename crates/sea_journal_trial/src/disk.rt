@@ -52,6 +52,11 @@ impl Disk {
         self.faults
     }
 
+    /// How many calls were made.
+    pub fn calls(&self) -> u64 {
+        self.calls
+    }
+
     /// The calls since the beginning.
     pub fn log(&self) -> &[Call] {
         &self.log

@@ -9,6 +9,7 @@ mod disk;
 mod failing;
 mod fault;
 mod past;
+mod rolling;
 mod running;
 mod speed;
 

@@ -103,6 +103,14 @@ impl Past {
         self.syncs
     }
 
+    /// Whether a trail ends at the last point, with the records that were made.
+    pub fn is_told_by(&self, trail: &Trail) -> bool {
+        match self.points.last() {
+            Some(point) => point.ends(trail) && self.has_records(point.gone, trail.records.items()),
+            None => false,
+        }
+    }
+
     /// Whether a crash after so many syncs may leave this trail.
     pub fn allows(&self, syncs: u64, trail: &Trail) -> bool {
         for stretch in self.stretches.iter() {

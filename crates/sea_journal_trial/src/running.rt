@@ -7,7 +7,7 @@ use crate::fault::TrialFault;
 use crate::past::{Past, Point, byte_of};
 use sea_base::{Paddr, Tail};
 use sea_journal::{Journal, mkfs};
-use sea_trail::{SEGMENT_BLOCKS, scan};
+use sea_trail::{SEGMENT_BLOCKS, Trail, scan};
 use std::alloc::Global;
 
 /// How many segments an image has.
@@ -40,16 +40,25 @@ pub struct Run {
 
 impl Run {
     /// Makes an image of a device of zeros, and opens it.
-    pub fn new(alloc: Global) -> Result<Run, TrialFault> {
-        let mut disk = Disk::new(alloc, BLOCKS, 0)?;
+    pub fn new(alloc: Global, mut disk: Disk) -> Result<Run, TrialFault> {
         mkfs(alloc, &mut disk, SEGMENTS)?;
         let trail = scan(alloc, &mut disk)?;
-        let mut past = Past::new(alloc, Point::of(&trail, 0))?;
-        let journal = match resumed(alloc, disk, &trail) {
+        let past = Past::new(alloc, Point::of(&trail, 0))?;
+        Run::open(alloc, disk, &trail, past)
+    }
+
+    /// Opens an image of which this trail was found, the last point of its past.
+    pub fn open(
+        alloc: Global,
+        disk: Disk,
+        trail: &Trail,
+        mut past: Past,
+    ) -> Result<Run, TrialFault> {
+        let journal = match resumed(alloc, disk, trail) {
             Ok(journal) => journal,
             Err((_disk, fault)) => return Err(fault),
         };
-        let mut point = Point::of(&trail, 0);
+        let mut point = past.last()?;
         point.end = point.end.saturating_add(1);
         point.mount = journal.mount();
         point.commit = journal.commit().0;
@@ -108,6 +117,15 @@ impl Run {
         self.journal.sync()?;
         if queued > 0 {
             self.past.synced()?;
+        }
+        Ok(())
+    }
+
+    /// Makes room for a record of 1,024 blocks: where the open segment has none, opens the least
+    /// empty one.
+    pub fn make_room(&mut self) -> Result<(), TrialFault> {
+        if self.journal.rest() < 1024 {
+            self.roll()?;
         }
         Ok(())
     }

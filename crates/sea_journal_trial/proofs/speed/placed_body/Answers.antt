@@ -1,4 +1,4 @@
-use Rattle.std.proofs.Common.{refl, ap, length, rules}
+use Rattle.std.proofs.Common.{refl, rules}
 use Rattle.sea_journal_trial.proofs.Placings.{client_is}
 use Rattle.sea_journal_trial.proofs.speed.placed_body.Goals as goal
 
