@@ -17,7 +17,7 @@ use Rattle.sea_tree.specs.Tree.{IsNodeOf, AreApart, root_bounds}
 use Rattle.sea_tree.proofs.Apart.{IsNodeOf-root, few_levels}
 use Rattle.sea_tree.proofs.Puts.{planned_fails}
 use Rattle.sea_tree.proofs.Walks.{one_store}
-use Rattle.sea_onode.specs.Calls.{Meets, Saves, Erases, SaveForm, EraseForm, IsFindFault, IsNoOnode}
+use Rattle.sea_onode.specs.Calls.{NotesMore, Meets, Saves, Erases, SaveForm, EraseForm, IsFindFault, IsNoOnode}
 use Rattle.sea_onode.specs.Onodes.{Onodes}
 use Rattle.sea_onode.specs.Spelling.{Spells, IsValueOf}
 use Rattle.sea_onode.proofs.Onodes.{same_value, value_bytes, spelled-insert, spelled-remove, spelled-again}
@@ -126,6 +126,11 @@ module _ (old mid new : Seen) (reads : OnlyRead old mid) where
   agrees_mid key value first (inl form) store agrees = λ at found e. agrees at found (form.writes.reads at found (form.plans.reads at found (form.reads.noted at found e)))
   agrees_mid key value first (inr form) store agrees = λ at found e. agrees at found (form.writes.reads at found (form.reads.noted at found e))
 
+  -- what was noted stays
+  pub notes_put : (key : List ℕ) (value : Option (List ℕ)) (first : List ℕ) → HasForm 1 key value mid new ⊎ HasFirst 1 key first mid new → NotesMore old new
+  notes_put key value first (inl form) = λ at found e. form.writes.reads at found (form.plans.reads at found (form.reads.noted at found (reads.noted at found e)))
+  notes_put key value first (inr form) = λ at found e. form.writes.reads at found (form.reads.noted at found (reads.noted at found e))
+
   as_before : (at : ℕ) → IsAsBefore mid new at → IsAsBefore old new at
   as_before at was = record {
     changed = was.changed ∙ reads.changed at;
@@ -225,3 +230,8 @@ erased Kept Taken (Some v) (Some x) is form = form
 pub form_erase : (old new : Seen) (name : List ℕ) (store : Store) (before : Onodes) (m : Meets store old new before) (found : Option (List ℕ)) → found ≡ map.get m.onodes.content name → MatchOption found (OnlyRead old new) (λ _. HasForm 1 name None old new) → EraseForm name old new before
 form_erase old new name store before m found is form =
     erased (OnlyRead old new) (HasForm 1 name None old new) (map.get m.onodes.content name) (map.get before name) (m.onodes.spelled name) (subst (λ (v : Option (List ℕ)). MatchOption v (OnlyRead old new) (λ _. HasForm 1 name None old new)) is form)
+
+-- what an erasure noted before stays
+pub notes_erased : (old new : Seen) (name : List ℕ) (found : Option (List ℕ)) → MatchOption found (OnlyRead old new) (λ _. HasForm 1 name None old new) → NotesMore old new
+notes_erased old new name None reads = reads.noted
+notes_erased old new name (Some value) form = λ at found e. form.writes.reads at found (form.plans.reads at found (form.reads.noted at found e))

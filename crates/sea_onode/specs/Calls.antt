@@ -2,7 +2,7 @@
 use Rattle.std.specs.Prelude.{◌≡◌, ◌≢◌, ◌⊎◌, ℕ, ◌<◌, ◌≤◌, List, [], ◌∷◌, map as each, Option, Some, None, MatchOption}
 use Rattle.std.specs.Option.{unwrap_or}
 use Rattle.std.specs.FinMap as map
-use Rattle.sea_base.specs.Space.{Store, Seen, Agrees, OnlyRead, laid}
+use Rattle.sea_base.specs.Space.{Store, Seen, Found, Agrees, OnlyRead, laid}
 use Rattle.sea_node.specs.Entries.{Entry, Values}
 use Rattle.sea_object.specs.declared.onode.Onode.{Onode}
 use Rattle.sea_tree.specs.declared.fault.TreeFault.{TreeFault}
@@ -68,6 +68,11 @@ pub record Erases (store : Store) (name : List ℕ) (old new : Seen) (before : O
   pub becomes : Becomes store old new (map.remove before name)
   pub order : AreInOrder (laid old store) old.next before
       → AreInOrder (laid new store) new.next (map.remove before name)
+
+-- what was noted stays
+abbrev pub NotesMore : Seen → Seen → Type 0
+NotesMore old new =
+    (at : ℕ) (found : Found) → old.reads at ≡ Some found → new.reads at ≡ Some found
 
 -- an onode's value was put under its name, behind reads of the path to it
 pub record IsPut (name : List ℕ) (onode : Onode) (old new : Seen) : Type 0 where

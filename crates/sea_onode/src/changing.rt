@@ -4,7 +4,7 @@ ghost use Rattle.sea_base.specs.Ghosts.{IsReady, IsCall};
 ghost use Rattle.sea_base.specs.Space.{Store};
 ghost use Rattle.sea_tree.specs.Calls.{ChangeFootprint, ChangeFailure, space_fault};
 ghost use Rattle.sea_onode.specs.Onodes.{Onodes};
-ghost use Rattle.sea_onode.specs.Calls.{Meets, Saves, Erases, SaveForm, EraseForm};
+ghost use Rattle.sea_onode.specs.Calls.{Meets, Saves, Erases, SaveForm, EraseForm, NotesMore};
 
 use crate::{ONODE_ROOT, spell_onode};
 use sea_base::{Data, Name, Space};
@@ -30,6 +30,7 @@ pub fn save<S: Space>(
         → SaveForm store name.now onode.now (S.seen space.old) (S.seen space.new) onodes) }
     ensures footprint { OnOk result
         (ChangeFootprint 1 name.now (S.seen space.old) (S.seen space.new)) }
+    ensures notes { OnOk result (NotesMore (S.seen space.old) (S.seen space.new)) }
     ensures failure { IfErr result
         (ChangeFailure 1 name.now (S.seen space.old) (S.seen space.new)) }
     ensures next { ((S.seen space.old).next ≤ (S.seen space.new).next)
@@ -67,6 +68,7 @@ pub fn erase<S: Space>(alloc: Global, space: &mut S, name: &Name) -> Result<(), 
         → EraseForm name.now (S.seen space.old) (S.seen space.new) onodes) }
     ensures footprint { OnOk result
         (ChangeFootprint 1 name.now (S.seen space.old) (S.seen space.new)) }
+    ensures notes { OnOk result (NotesMore (S.seen space.old) (S.seen space.new)) }
     ensures failure { IfErr result
         (ChangeFailure 1 name.now (S.seen space.old) (S.seen space.new)) }
     ensures next { ((S.seen space.old).next ≤ (S.seen space.new).next)

@@ -4,7 +4,7 @@ use Rattle.std.proofs.lemmas.Result.{err_from_is_err_and}
 use Rattle.sea_base.proofs.Calling.{call_then}
 use Rattle.sea_tree.proofs.Puts.{path_fails, read_footprint}
 use Rattle.sea_onode.proofs.Spelling.{length-onode_bytes}
-use Rattle.sea_onode.proofs.Saving.{saves_same, saves_put, agrees_mid, footprint_since, failure_since, form_same, form_put}
+use Rattle.sea_onode.proofs.Saving.{saves_same, saves_put, agrees_mid, footprint_since, failure_since, form_same, form_put, notes_put}
 use Rattle.sea_onode.proofs.changing.save.Goals as goal
 use Rattle.std.proofs.Common.{Some}
 
@@ -58,3 +58,10 @@ returns-clause-footprint g c =
 
 pub returns-clause-call : goal.returns-clause-call
 returns-clause-call g c = call_then g.S.Space g.met.S.Space.frame c.in_ok-old.ensures.call c.in_ok-put.ensures.call
+
+pub returns-then-is_value-clause-notes : goal.returns-then-is_value-clause-notes
+returns-then-is_value-clause-notes g c = c.in_ok-old.ensures.reads.noted
+
+pub returns-clause-notes : goal.returns-clause-notes
+returns-clause-notes g c =
+    notes_put (g.S.Space.seen c.args.space.now) (g.S.Space.seen c.get.new.space) (g.S.Space.seen c.put.new.space) c.in_ok-old.ensures.reads c.args.name.now (Some c.in_ok-value.value) c.in_ok-value.value c.in_ok-put.ensures.form
