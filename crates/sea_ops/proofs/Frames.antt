@@ -1,5 +1,5 @@
 -- What a change of one tree leaves of a store of objects: its other trees, the bytes of all objects, and the uses of its blocks.
-use Rattle.std.proofs.Common.{◌≡◌, ◌≢◌, ◌⊎◌, inl, inr, ℕ, zero, suc, ◌+◌, ◌*◌, ◌<◌, ◌≤◌, max, List, Option, Some, None, refl, sym, ap, subst, ◌∙◌, arith}
+use Rattle.std.proofs.Common.{◌≡◌, ◌≢◌, ◌⊎◌, inl, inr, ℕ, zero, suc, ◌+◌, ◌<◌, ◌≤◌, max, List, Option, Some, None, refl, sym, ap, subst, ◌∙◌, arith}
 use Rattle.std.proofs.lemmas.Bool.{cases_lt, cases_eq}
 use Rattle.std.specs.FinMap as map
 use Rattle.sea_base.specs.Space.{Store}
@@ -7,7 +7,7 @@ use Rattle.sea_node.specs.Entries.{Values}
 use Rattle.sea_object.specs.declared.onode.Onode.{Onode}
 use Rattle.sea_onode.specs.Onodes.{Onodes}
 use Rattle.sea_onode.specs.Order.{IsInRange}
-use Rattle.sea_tree.specs.Tree.{NodeAt, IsTree, IsBelowNode, IsNodeOf, AreApart}
+use Rattle.sea_tree.specs.Tree.{IsTree, IsBelowNode, IsNodeOf, AreApart}
 use Rattle.sea_tree.specs.Content.{HasContent}
 use Rattle.sea_tree.specs.Changing.{Changed}
 use Rattle.sea_tree.proofs.Apart.{IsNodeOf-filled, IsNodeOf-root, HasContent-kept}
@@ -51,7 +51,7 @@ pub record Stands (store : Store) (next : ℕ) (onodes : Onodes) : Type 0 where
   pub trees : (root : ℕ) → IsRoot onodes root → (content : Values) × HasContent store root content
   pub shared : AreSharedOut store onodes
 
-either : (found : Option (List ℕ)) → (found ≡ None) ⊎ (found ≢ None)
+pub either : (found : Option (List ℕ)) → (found ≡ None) ⊎ (found ≢ None)
 either None = inl refl
 either (Some block) = inr (λ e. cc)
 
@@ -116,7 +116,7 @@ module _ (was is : Store) (next first last : ℕ) (onodes : Onodes) (root : ℕ)
         ]
 
   -- the address of a data block is that of no tree
-  data_kept : (name : List ℕ) (onode : Onode) (at : ℕ) → map.get onodes name ≡ Some onode → onode.base.0 + 2 ≤ at → at < onode.base.0 + 4098 → is at ≡ was at
+  pub data_kept : (name : List ℕ) (onode : Onode) (at : ℕ) → map.get onodes name ≡ Some onode → onode.base.0 + 2 ≤ at → at < onode.base.0 + 4098 → is at ≡ was at
   data_kept name onode at e from below = c.elsewhere at no_root (λ node. no_root (s.shared.alone root at of node (name, onode, e, within))) side
     where
       within : IsInRange onode at

@@ -1,15 +1,18 @@
 -- What an operation does to a store, on every well-formed store that agrees with what it read.
-use Rattle.std.specs.Prelude.{◌≡◌, ◌⊎◌, ℕ, ◌<◌, ◌≤◌, ◌^◌, max, true, Some, None}
-use Rattle.sea_base.specs.Space.{Store, Seen, Found, Agrees, laid}
+use Rattle.std.specs.Prelude.{◌≡◌, ◌⊎◌, ℕ, ◌<◌, ◌≤◌, ◌^◌, max, true, List, Some, None}
+use Rattle.std.specs.FinMap as map
+use Rattle.sea_base.specs.Space.{Store, Seen, Agrees, laid}
 use Rattle.sea_object.specs.declared.op.Op.{Op}
 use Rattle.sea_object.specs.declared.reply.Item.{Item}
 use Rattle.sea_object.specs.declared.reply.Why.{Why}
 use Rattle.sea_object.specs.Answer as model
-use Rattle.sea_object.specs.Objects.{ObjectMap}
+use Rattle.sea_object.specs.Objects.{ObjectMap, empty_object}
 use Rattle.sea_omap.specs.Calls.{IsGiven}
 use Rattle.sea_onode.specs.Onodes.{Onodes}
+use Rattle.sea_onode.specs.Calls.{NotesMore}
 use Rattle.sea_onode.specs.Order.{IsInRange}
 use Rattle.sea_tree.specs.declared.fault.TreeFault.{TreeFault}
+use Rattle.sea_tree.specs.Breaks.{FillsFewer}
 use Rattle.sea_tree.specs.Calls.{IsOfSpace}
 use Rattle.sea_ops.specs.WellFormed.{HasOnodeWith, IsWellFormed}
 
@@ -43,10 +46,6 @@ pub record IsDone (op : Op) (item : Item) (store : Store) (next : ℕ) (objects 
   pub within : (at : ℕ) → new.changed at ≡ true
       → (old.changed at ≡ true) ⊎ ((1 ≤ at) × (at < max next new.next))
 
--- what was noted stays
-abbrev pub NotesMore : Seen → Seen → Type 0
-NotesMore old new = (at : ℕ) (found : Found) → old.reads at ≡ Some found → new.reads at ≡ Some found
-
 -- An operation was done, with this item: on every store that it speaks of.
 pub record Does (op : Op) (item : Item) (old new : Seen) : Type 0 where
   pub notes : NotesMore old new
@@ -66,3 +65,28 @@ abbrev pub Fails : Seen → Seen → TreeFault → Type 0
 Fails old new fault =
     (store : Store) (next : ℕ) (objects : ObjectMap) → Meets store next objects old new
     → IsOfSpace fault
+
+-- The same of an operation that changes a tree: on stores with few enough filled addresses, whose
+-- trees can always grow.
+abbrev pub FailsUnlessFull : Seen → Seen → TreeFault → Type 0
+FailsUnlessFull old new fault =
+    (store : Store) (next : ℕ) (objects : ObjectMap) → Meets store next objects old new
+    → FillsFewer (laid old store) (2 ^ 25) → IsOfSpace fault
+
+-- What the making of an empty object comes to on a store without one of that name.
+pub record IsMade (name : List ℕ) (store : Store) (next : ℕ) (objects : ObjectMap)
+    (old new : Seen) (m : Meets store next objects old new) : Type 0 where
+  pub formed : IsWellFormed (laid new store) (max next new.next)
+      (map.insert objects name empty_object)
+  pub leaves : (at : ℕ) → IsFree (laid old store) m.formed.onodes at → (IsGiven old new at → ⊥)
+      → IsFree (laid new store) formed.onodes at
+  pub within : (at : ℕ) → new.changed at ≡ true
+      → (old.changed at ≡ true) ⊎ ((1 ≤ at) × (at < max next new.next))
+
+-- An empty object was made under a name: wherever there was none, the store is well formed with it.
+pub record Makes (name : List ℕ) (old new : Seen) : Type 0 where
+  pub notes : NotesMore old new
+  pub rises : old.next ≤ new.next
+  pub makes : (store : Store) (next : ℕ) (objects : ObjectMap)
+      (m : Meets store next objects old new) → map.get objects name ≡ None
+      → IsMade name store next objects old new m

@@ -2,5 +2,7 @@
 #![tactic(auto)]
 
 mod asking;
+mod making;
 
 pub use asking::{get_attr, get_attrs, list, omap_get, omap_list, read, stat};
+pub use making::touch;
