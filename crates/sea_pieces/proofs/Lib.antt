@@ -5,4 +5,5 @@ pub mod ReadPieces
 pub mod SamePieces
 pub mod Seen
 pub mod Shared
+pub mod Telling
 pub mod Versions

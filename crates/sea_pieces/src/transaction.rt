@@ -1,17 +1,18 @@
 //! Open transactions.
-ghost use Rattle.std.specs.Prelude.{◌≡◌, ◌∷◌, [], ◌++◌, List, Some, option_map, unwrap_or};
-ghost use Rattle.std.specs.Prelude.{IfOk, OnOk};
+ghost use Rattle.std.specs.Prelude.{◌≡◌, ◌≤◌, ◌∷◌, [], ◌++◌, List, false, length, take, drop};
+ghost use Rattle.std.specs.Prelude.{Some, option_map, unwrap_or, IfOk, OnOk, IfSome};
 ghost use Rattle.std.specs.List.{AllByRecursion};
+ghost use Rattle.std.specs.Option.{option_copied};
 ghost use Rattle.std.specs.FinMap as map;
 ghost use Rattle.sea_object.specs.declared.op.Op.{Op};
-ghost use Rattle.sea_object.specs.Answer.{effects, item};
+ghost use Rattle.sea_object.specs.Answer.{effects, item, item_at};
 ghost use Rattle.sea_object.specs.Objects.{ObjectMap};
 ghost use Rattle.sea_object.specs.Op.{IsWithinLimits};
 ghost use Rattle.sea_pieces.specs.Laying.{IsServed, SharesRead, after_piece, after_pieces, laid};
 ghost use Rattle.sea_pieces.specs.Laying.{op_pieces, read_name};
 ghost use Rattle.sea_pieces.specs.Committed.{objects_in, plain_object};
 ghost use Rattle.sea_pieces.specs.Spelling.{IsPiece};
-ghost use Rattle.sea_pieces.specs.Reads.{read_item, size_item};
+ghost use Rattle.sea_pieces.specs.Reads.{told};
 
 use crate::content::Content;
 use crate::{Committed, Piece, Pieces};
@@ -99,20 +100,38 @@ impl Transaction {
             item op.now (after_pieces self.now.pieces (objects_in committed.now))) }
     {
         match op {
-            Op::Read {
-                name,
-                offset,
-                length,
-            } => {
-                let found = self.view(committed, name)?;
-                read(self.alloc, &found, *offset as usize, *length as usize)
-            }
-            Op::Stat { name } => {
-                let found = self.view(committed, name)?;
-                Ok(size(&found))
-            }
+            Op::Read { name, .. } => self.item_of(committed, name, op),
+            Op::Stat { name } => self.item_of(committed, name, op),
             _ => Ok(Item::Unit),
         }
+    }
+
+    // What an operation answers of the object of this name.
+    fn item_of(&self, committed: &Committed, name: &Name, op: &Op) -> Result<Item, NoMemory>
+        requires { read_name op.now ≡ Some name.now }
+        ensures { IfOk result (λ made. made ≡ item_at op.now
+            (map.get (after_pieces self.now.pieces (objects_in committed.now)) name.now)) }
+    {
+        if !self.has_piece_of(name) {
+            return told(self.alloc, committed.bytes(name), op);
+        }
+        match self.view(committed, name)? {
+            Some(content) => told(self.alloc, Some(content.bytes()), op),
+            None => told(self.alloc, None, op),
+        }
+    }
+
+    // Whether one of the pieces is of the object of this name.
+    fn has_piece_of(&self, name: &Name) -> bool
+        ensures { result ≡ false → (objects : ObjectMap) →
+            map.get (after_pieces self.now.pieces objects) name.now ≡ map.get objects name.now }
+    {
+        for piece in self.pieces.items() {
+            if piece.name == *name {
+                return true;
+            }
+        }
+        false
     }
 
     // The bytes of the object of this name, as the transaction sees it.
@@ -162,31 +181,25 @@ fn lay_over(alloc: Global, found: &mut Option<Content>, piece: &Piece) -> Result
     Ok(())
 }
 
-// The item of a read of an object of these bytes.
-fn read(
-    alloc: Global,
-    found: &Option<Content>,
-    offset: usize,
-    length: usize,
-) -> Result<Item, NoMemory>
-    ensures { IfOk result (λ made. made ≡ read_item offset length found.now) }
+// What an operation answers of an object of these bytes, or of none.
+fn told(alloc: Global, found: Option<&[u8]>, op: &Op) -> Result<Item, NoMemory>
+    requires { IfSome found (λ bytes. length bytes.now ≤ 16777216) }
+    ensures { IfOk result (λ made. made ≡ told op.now (option_copied found.entry)) }
 {
-    let Some(content) = found else {
+    let Some(bytes) = found else {
         return Ok(Item::Absent);
     };
-    let bytes = content.bytes();
-    let rest = &bytes[offset.min(bytes.len())..];
-    Ok(Item::Bytes(Data::new(alloc, &rest[..length.min(rest.len())])?))
+    match op {
+        Op::Read { offset, length, .. } => read(alloc, bytes, *offset as usize, *length as usize),
+        _ => Ok(Item::Number(bytes.len() as u32)),
+    }
 }
 
-// The item of a question for the size of an object of these bytes.
-fn size(found: &Option<Content>) -> Item
-    ensures { result ≡ size_item found.now }
+fn read(alloc: Global, bytes: &[u8], offset: usize, length: usize) -> Result<Item, NoMemory>
+    ensures { IfOk result (λ made. made ≡ Item.Bytes (take length (drop offset bytes.now))) }
 {
-    match found {
-        Some(content) => Item::Number(content.bytes().len() as u32),
-        None => Item::Absent,
-    }
+    let rest = &bytes[offset.min(bytes.len())..];
+    Ok(Item::Bytes(Data::new(alloc, &rest[..length.min(rest.len())])?))
 }
 
 // Appends what an operation lays over its object.
