@@ -1,3 +1,4 @@
+pub mod Apart
 pub mod Fields
 pub mod Laying
 pub mod Lengths

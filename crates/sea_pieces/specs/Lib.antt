@@ -1,3 +1,4 @@
+pub mod Addresses
 pub mod Committed
 pub mod Laying
 pub mod Reads

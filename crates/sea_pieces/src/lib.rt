@@ -1,12 +1,14 @@
 //! Objects as the pieces of records make them, with their versions, and the transactions on them.
 #![tactic(auto)]
 
+mod addresses;
 mod committed;
 mod content;
 mod piece;
 mod spelling;
 mod transaction;
 
+pub use addresses::Addresses;
 pub use committed::Committed;
 pub use piece::{Piece, Pieces};
 pub use spelling::{read_pieces, spell_pieces};

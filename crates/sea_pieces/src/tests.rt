@@ -84,3 +84,14 @@ fn lay(alloc: Global, committed: &mut Committed) -> Result<(), Fail> {
     )?;
     Ok(())
 }
+
+#[test]
+fn each_name_has_an_address_of_its_own(rt: HostRuntime) -> Result<(), Fail> {
+    let alloc = rt.alloc();
+    let mut addresses = Addresses::new(alloc);
+    let first = addresses.meet(&Name::new(alloc, b"a")?)?;
+    let second = addresses.meet(&Name::new(alloc, b"b")?)?;
+    let again = addresses.meet(&Name::new(alloc, b"a")?)?;
+    assert_eq!(rt; [first.0, second.0, again.0], [2, 3, 2]);
+    Ok(())
+}
