@@ -2,9 +2,11 @@ pub mod Apart
 pub mod Fields
 pub mod Laying
 pub mod Lengths
+pub mod Noting
 pub mod ReadPieces
 pub mod SamePieces
 pub mod Seen
 pub mod Shared
+pub mod Stable
 pub mod Telling
 pub mod Versions

@@ -6,12 +6,14 @@ mod committed;
 mod content;
 mod piece;
 mod spelling;
+mod store;
 mod transaction;
 
 pub use addresses::Addresses;
 pub use committed::Committed;
 pub use piece::{Piece, Pieces};
 pub use spelling::{read_pieces, spell_pieces};
+pub use store::PieceStore;
 pub use transaction::Transaction;
 
 #[cfg(test)]

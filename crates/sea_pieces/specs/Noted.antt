@@ -1,0 +1,26 @@
+-- What a board notes of the objects that transactions read.
+use Rattle.std.specs.Prelude.{◌≡◌, ℕ, ◌+◌, ◌<◌, ◌≤◌, List, Option, Some}
+use Rattle.std.specs.Option.{ForSome}
+use Rattle.std.specs.FinMap as map
+use Rattle.sea_base.specs.declared.place.Commit.{Commit}
+use Rattle.sea_sets.specs.Board.{noted}
+use Rattle.sea_sets.specs.declared.board.Board.{Board}
+use Rattle.sea_pieces.specs.Addresses.{AddressMap}
+use Rattle.sea_pieces.specs.Committed.{VersionMap, version_of}
+
+-- a version that a commit up to this one left
+abbrev pub IsUpTo : Commit → Option Commit → Type 0
+IsUpTo last version = ForSome version (λ commit. commit.0 ≤ last.0)
+
+-- no object has a version past the last commit
+abbrev pub AreUpTo : Commit → VersionMap → Type 0
+AreUpTo last committed = (name : List ℕ) → IsUpTo last (version_of committed name)
+
+-- A note stands at an address that was given, tells the version that the object of that name has
+-- now, and found one that was there.
+pub record AreNoted (committed : VersionMap) (addresses : AddressMap) (last : Commit) (board : Board)
+    : Type 0 where
+  pub given : (client at : ℕ) → ForSome (noted board client at) (λ _. at < 2 + map.len addresses)
+  pub current : (client at : ℕ) (name : List ℕ) → map.get addresses name ≡ Some at →
+      ForSome (noted board client at) (λ note. note.current ≡ version_of committed name)
+  pub seen : (client at : ℕ) → ForSome (noted board client at) (λ note. IsUpTo last note.seen)
