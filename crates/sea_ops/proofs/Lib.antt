@@ -1,3 +1,4 @@
+pub mod Alike
 pub mod Asked
 pub mod Examples
 pub mod Frames
@@ -5,3 +6,6 @@ pub mod Made
 pub mod Makes
 pub mod Names
 pub mod Stable
+pub mod TurnFails
+pub mod Turned
+pub mod Turns

@@ -77,14 +77,14 @@ module _ (old mid new : Seen) (g : Gives 4098 old mid) where
         }
 
   -- the save of the onode fails where the tree can't grow
-  pub make_fails : (name : List ℕ) (fault : TreeFault) → mid.next ≤ new.next → tree.ChangeFailure 1 name mid new fault → FailsUnlessFull old new fault
+  pub make_fails : (name : List ℕ) (fault : TreeFault) → mid.next ≤ new.next → tree.ChangeFailure 1 name mid new fault → FailsUnlessFull (2 ^ 25) old new fault
   make_fails name fault later f store next objects m few =
       f.never_full store m.formed.order.tree.content (meets_tree store next objects m later) (subst (λ (s : Store). FillsFewer s (2 ^ 25)) (sym (mid_is store)) few)
 
 -- ---- behind the lookup of the name
 
 module _ (old mid new : Seen) (first : OnlyRead old mid) where
-  meets_since : (store : Store) (next : ℕ) (objects : ObjectMap) → Meets store next objects old new → Meets store next objects mid new
+  unfoldable pub meets_since : (store : Store) (next : ℕ) (objects : ObjectMap) → Meets store next objects old new → Meets store next objects mid new
   unfolding formed_as
   meets_since store next objects m = record {
     agrees = m.agrees;
@@ -93,8 +93,8 @@ module _ (old mid new : Seen) (first : OnlyRead old mid) where
     fresh = λ at given. let free = m.fresh at (omega (arith, given.0, first.next), given.1) in record { low = free.low; empty = ap (λ (s : Store). s at) (one_store first store) ∙ free.empty; unused = free.unused };
   }
 
-  pub fails_since : (fault : TreeFault) → FailsUnlessFull mid new fault → FailsUnlessFull old new fault
-  fails_since fault f store next objects m few = f store next objects (meets_since store next objects m) (subst (λ (s : Store). FillsFewer s (2 ^ 25)) (sym (one_store first store)) few)
+  pub fails_since : (count : ℕ) (fault : TreeFault) → FailsUnlessFull count mid new fault → FailsUnlessFull count old new fault
+  fails_since count fault f store next objects m few = f store next objects (meets_since store next objects m) (subst (λ (s : Store). FillsFewer s count) (sym (one_store first store)) few)
 
   -- a name without an object is touched
   pub touches : (name : List ℕ) → onode.Finds name old mid None → Makes name mid new → Does (Touch name) Nothing old new

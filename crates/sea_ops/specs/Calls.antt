@@ -1,5 +1,5 @@
 -- What an operation does to a store, on every well-formed store that agrees with what it read.
-use Rattle.std.specs.Prelude.{◌≡◌, ◌⊎◌, ℕ, ◌<◌, ◌≤◌, ◌^◌, max, true, List, Some, None}
+use Rattle.std.specs.Prelude.{◌≡◌, ◌⊎◌, ℕ, ◌<◌, ◌≤◌, ◌^◌, max, true, List, Some, None, Result, Ok, Err}
 use Rattle.std.specs.FinMap as map
 use Rattle.sea_base.specs.Space.{Store, Seen, Agrees, laid}
 use Rattle.sea_object.specs.declared.op.Op.{Op}
@@ -60,18 +60,23 @@ pub record Refuses (op : Op) (why : Why) (old new : Seen) : Type 0 where
   pub refuses : (store : Store) (next : ℕ) (objects : ObjectMap)
       → Meets store next objects old new → model.refusal op objects ≡ Some why
 
+-- An operation that may be refused ended: it was done, with this item, or refused, for this reason.
+abbrev pub Ends : Op → Result Item Why → Seen → Seen → Type 0
+Ends op (Ok item) old new = Does op item old new
+Ends op (Err why) old new = Refuses op why old new
+
 -- An operation ended with a fault: that of the space, where it speaks of a store at all.
 abbrev pub Fails : Seen → Seen → TreeFault → Type 0
 Fails old new fault =
     (store : Store) (next : ℕ) (objects : ObjectMap) → Meets store next objects old new
     → IsOfSpace fault
 
--- The same of an operation that changes a tree: on stores with few enough filled addresses, whose
--- trees can always grow.
-abbrev pub FailsUnlessFull : Seen → Seen → TreeFault → Type 0
-FailsUnlessFull old new fault =
+-- The same of an operation that changes a tree: on stores with fewer filled addresses than so many,
+-- whose trees can always grow.
+abbrev pub FailsUnlessFull : ℕ → Seen → Seen → TreeFault → Type 0
+FailsUnlessFull count old new fault =
     (store : Store) (next : ℕ) (objects : ObjectMap) → Meets store next objects old new
-    → FillsFewer (laid old store) (2 ^ 25) → IsOfSpace fault
+    → FillsFewer (laid old store) count → IsOfSpace fault
 
 -- What the making of an empty object comes to on a store without one of that name.
 pub record IsMade (name : List ℕ) (store : Store) (next : ℕ) (objects : ObjectMap)

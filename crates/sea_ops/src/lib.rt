@@ -2,7 +2,9 @@
 #![tactic(auto)]
 
 mod asking;
+mod attributes;
 mod making;
 
 pub use asking::{get_attr, get_attrs, list, omap_get, omap_list, read, stat};
+pub use attributes::remove_attr;
 pub use making::touch;

@@ -1,3 +1,4 @@
+use Rattle.std.proofs.Common.{◌^◌}
 use Rattle.std.proofs.lemmas.Result.{err_from_is_err_and}
 use Rattle.sea_base.proofs.Calling.{call_then}
 use Rattle.sea_ops.proofs.Asked.{find_fails}
@@ -12,7 +13,7 @@ returns-in_err-find-clause-failure g c =
 pub returns-in_err-make-in-None-clause-failure : goal.returns-in_err-make-in-None-clause-failure
 returns-in_err-make-in-None-clause-failure g c =
     let p = err_from_is_err_and c.from_residual-in_err-make-in-None.result c.from_residual-in_err-make-in-None.ensures.1 in
-    rw (p.1, p.2) (fails_since (g.S.Space.seen c.args.space.now) (g.S.Space.seen c.find.new.space) (g.S.Space.seen c.make.new.space) c.in_ok-find.ensures.reads c.in_err-make-in-None.field-0.0 c.in_err-make-in-None.ensures.failure)
+    rw (p.1, p.2) (fails_since (g.S.Space.seen c.args.space.now) (g.S.Space.seen c.find.new.space) (g.S.Space.seen c.make.new.space) c.in_ok-find.ensures.reads (2 ^ 25) c.in_err-make-in-None.field-0.0 c.in_err-make-in-None.ensures.failure)
 
 pub returns-in_err-make-in-None-clause-call : goal.returns-in_err-make-in-None-clause-call
 returns-in_err-make-in-None-clause-call g c =
