@@ -1,7 +1,10 @@
 pub mod Apart
+pub mod Committing
 pub mod Fields
 pub mod Laying
 pub mod Lengths
+pub mod Marking
+pub mod Moving
 pub mod Noting
 pub mod ReadPieces
 pub mod SamePieces

@@ -16,7 +16,7 @@ use Rattle.sea_pieces.specs.Addresses.{AddressMap, AreApart, address_of}
 use Rattle.sea_pieces.specs.Committed.{VersionMap, version_of}
 use Rattle.sea_pieces.specs.Noted.{AreNoted, AreUpTo}
 
-same_or : (p q : ℕ) → (p ≡ q) ⊎ (p ≢ q)
+pub same_or : (p q : ℕ) → (p ≡ q) ⊎ (p ≢ q)
 same_or p q = elim (order p q) [
   | inl less ↦ inr (λ e. absurd (omega (arith, e, less)))
   | inr rest ↦ elim rest [ inl e ↦ inl e | inr more ↦ inr (λ e. absurd (omega (arith, e, more))) ]

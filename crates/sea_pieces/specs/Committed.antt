@@ -48,3 +48,9 @@ with_piece commit piece versions =
       commit = commit;
       content = laid piece.offset piece.bytes (unwrap_or (content_of versions piece.name) []);
     })
+
+-- once it laid pieces over their objects in order
+abbrev pub with_pieces : Commit → List Piece → VersionMap → VersionMap
+with_pieces commit [] versions = versions
+with_pieces commit (piece ∷ pieces) versions =
+    with_pieces commit pieces (with_piece commit piece versions)

@@ -24,3 +24,8 @@ pub record AreNoted (committed : VersionMap) (addresses : AddressMap) (last : Co
   pub current : (client at : ℕ) (name : List ℕ) → map.get addresses name ≡ Some at →
       ForSome (noted board client at) (λ note. note.current ≡ version_of committed name)
   pub seen : (client at : ℕ) → ForSome (noted board client at) (λ note. IsUpTo last note.seen)
+
+-- each version that was found is one from before this commit
+abbrev pub AreBefore : Commit → Board → Type 0
+AreBefore commit board = (client at : ℕ) → ForSome (noted board client at)
+    (λ note. ForSome note.seen (λ seen. seen.0 < commit.0))

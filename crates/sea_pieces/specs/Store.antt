@@ -43,3 +43,8 @@ pub record NotesName (client : ℕ) (name : List ℕ) (old new : PieceStore) : T
   pub kept : (objects : ObjectMap) → SharesReads new client objects → SharesReads old client objects
   pub shared : (objects : ObjectMap) → SharesReads new client objects →
       map.get objects name ≡ map.get (objects_in new.committed) name
+
+-- all clients' transactions stay stable
+abbrev pub KeepsAll : PieceStore → PieceStore → Type 0
+KeepsAll old new = (client : ℕ) (ops : List Op) (done : Done) →
+    IsStable old client ops done → IsStable new client ops done

@@ -1,5 +1,5 @@
 //! The committed objects, and which open transactions a commit overtakes.
-ghost use Rattle.std.specs.Prelude.{◌≡◌, ℕ, ◌∷◌, [], ◌++◌, List, Some, MatchOption};
+ghost use Rattle.std.specs.Prelude.{◌≡◌, ℕ, ◌<◌, ◌∷◌, [], ◌++◌, List, Some, MatchOption, length};
 ghost use Rattle.std.specs.Prelude.{IfOk, OnOk, IfSome, IfNone};
 ghost use Rattle.std.specs.Option.{option_copied};
 ghost use Rattle.std.specs.FinMap as map;
@@ -7,15 +7,16 @@ ghost use Rattle.sea_object.specs.declared.op.Op.{Op};
 ghost use Rattle.sea_object.specs.Answer.{item};
 ghost use Rattle.sea_object.specs.Op.{IsWithinLimits};
 ghost use Rattle.sea_sets.specs.Board.{HasClient, HasNoConflict, Ends, IsConflict, IsEmpty, IsOpen};
-ghost use Rattle.sea_pieces.specs.Committed.{objects_in, version_of};
+ghost use Rattle.sea_pieces.specs.Committed.{objects_in, version_of, with_piece, with_pieces};
+ghost use Rattle.sea_pieces.specs.Spelling.{IsPiece};
 ghost use Rattle.sea_pieces.specs.Laying.{IsServed, after_pieces, op_pieces, read_name};
-ghost use Rattle.sea_pieces.specs.Noted.{AreNoted, AreUpTo};
+ghost use Rattle.sea_pieces.specs.Noted.{AreBefore, AreNoted, AreUpTo};
 ghost use Rattle.sea_pieces.specs.Transaction.{Did, Done};
 
-use crate::{Addresses, Committed, Transaction};
+use crate::{Addresses, Committed, Piece, Transaction};
 use sea_base::{Commit, Name, NoMemory};
 use sea_object::Op;
-use sea_sets::{Board, Conflict};
+use sea_sets::{Board, Change, Conflict};
 use std::alloc::Global;
 
 /// The committed objects, the addresses of their names, what the open transactions read, and the
@@ -32,7 +33,7 @@ pub struct PieceStore {
 }
 
 impl PieceStore {
-    ghost use Rattle.sea_pieces.specs.Store.{Continues, IsStable, KeepsOthers, NotesName};
+    ghost use Rattle.sea_pieces.specs.Store.{Continues, IsStable, KeepsAll, KeepsOthers, NotesName};
 
     /// The store of objects as the last commit left them, for so many clients, without open
     /// transactions.
@@ -106,6 +107,51 @@ impl PieceStore {
         let at = self.addresses.meet(name)?;
         let seen = self.committed.version(name);
         self.board.note_read(client, at, seen)
+    }
+
+    /// Commits a client's transaction, whose number is past that of the last commit: lays its pieces
+    /// over the committed objects, each of which then has that version, and closes it. After want of
+    /// memory the store is to be given up, in which other transactions are still stable.
+    pub fn commit(
+        &mut self,
+        client: u32,
+        commit: Commit,
+        transaction: &Transaction,
+    ) -> Result<(), NoMemory>
+        requires client { HasClient self.old.board client }
+        requires later { self.old.last.0 < commit.0 }
+        ensures versions { OnOk result (self.new.committed
+            ≡ with_pieces commit transaction.now.pieces self.old.committed) }
+        ensures objects { OnOk result (objects_in self.new.committed
+            ≡ after_pieces transaction.now.pieces (objects_in self.old.committed)) }
+        ensures last { self.new.last ≡ commit }
+        ensures others { KeepsOthers client self.old self.new }
+    {
+        self.board.end(client);
+        self.last = commit;
+        for piece in transaction.changes() {
+            self.lay(piece)?;
+        }
+        Ok(())
+    }
+
+    // Lays one piece of the last commit over its object, and moves the version on in all notes.
+    fn lay(&mut self, piece: &Piece) -> Result<(), NoMemory>
+        requires piece { IsPiece piece.now }
+        requires before { AreBefore self.old.last self.old.board }
+        ensures ok { OnOk result
+            (self.new.committed ≡ with_piece self.old.last piece.now self.old.committed) }
+        ensures before { AreBefore self.new.last self.new.board }
+        ensures stable { KeepsAll self.old self.new }
+        ensures last { self.new.last ≡ self.old.last }
+        ensures clients { length self.new.board.transactions.items
+            ≡ length self.old.board.transactions.items }
+    {
+        let at = self.addresses.meet(&piece.name)?;
+        self.committed.lay(self.last, piece)?;
+        let change = Change { at, gone: false };
+        self.board.mark(0, self.last, &[change]);
+        Ok(())
     }
 
     /// The least address that a client's transaction read and whose object no longer has the version
