@@ -5,6 +5,7 @@ pub mod Frames
 pub mod Made
 pub mod Makes
 pub mod Names
+pub mod Putting
 pub mod Stable
 pub mod TurnFails
 pub mod Turned

@@ -1,5 +1,6 @@
 -- What an operation does to a store, on every well-formed store that agrees with what it read.
-use Rattle.std.specs.Prelude.{◌≡◌, ◌⊎◌, ℕ, ◌<◌, ◌≤◌, ◌^◌, max, true, List, Some, None, Result, Ok, Err}
+use Rattle.std.specs.Prelude.{◌≡◌, ◌⊎◌, ℕ, ◌<◌, ◌≤◌, ◌^◌, max, true, List, Some, None}
+use Rattle.std.specs.Prelude.{Result, Ok, Err}
 use Rattle.std.specs.FinMap as map
 use Rattle.sea_base.specs.Space.{Store, Seen, Agrees, laid}
 use Rattle.sea_object.specs.declared.op.Op.{Op}

@@ -18,7 +18,7 @@ use sea_tree::{TreeFault, get, range};
 use std::alloc::Global;
 
 /// How many attributes an object has at most.
-const MOST_ATTRIBUTES: u32 = 64;
+pub(crate) const MOST_ATTRIBUTES: u32 = 64;
 
 /// The size of an object in bytes.
 pub fn stat<S: Space>(space: &mut S, name: &Name) -> Result<Item, TreeFault>

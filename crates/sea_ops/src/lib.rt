@@ -6,5 +6,5 @@ mod attributes;
 mod making;
 
 pub use asking::{get_attr, get_attrs, list, omap_get, omap_list, read, stat};
-pub use attributes::remove_attr;
+pub use attributes::{remove_attr, set_attr};
 pub use making::touch;

@@ -17,7 +17,8 @@ pub fn touch<S: Space>(alloc: Global, space: &mut S, name: &Name) -> Result<Item
     requires room { (S.seen space.old).next + 2 ^ 20 ≤ 2 ^ 62 + 2 ^ 46 }
     ensures does { IfOk result (λ item.
         Does (Touch name.now) item (S.seen space.old) (S.seen space.new)) }
-    ensures failure { IfErr result (FailsUnlessFull (2 ^ 25) (S.seen space.old) (S.seen space.new)) }
+    ensures failure { IfErr result
+        (FailsUnlessFull (2 ^ 25) (S.seen space.old) (S.seen space.new)) }
     ensures next { (S.seen space.new).next < (S.seen space.old).next + 2 ^ 21 }
     ensures call { IsCall S.Space space.old space.new (space_fault result) }
 {
@@ -35,7 +36,8 @@ fn make<S: Space>(alloc: Global, space: &mut S, name: &Name) -> Result<Onode, Tr
     requires ready { IsReady S.Space space.old }
     requires room { (S.seen space.old).next + 2 ^ 20 ≤ 2 ^ 62 + 2 ^ 46 }
     ensures made { OnOk result (Makes name.now (S.seen space.old) (S.seen space.new)) }
-    ensures failure { IfErr result (FailsUnlessFull (2 ^ 25) (S.seen space.old) (S.seen space.new)) }
+    ensures failure { IfErr result
+        (FailsUnlessFull (2 ^ 25) (S.seen space.old) (S.seen space.new)) }
     ensures next { (S.seen space.new).next < (S.seen space.old).next + 2 ^ 21 }
     ensures call { IsCall S.Space space.old space.new (space_fault result) }
 {
