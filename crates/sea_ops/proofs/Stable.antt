@@ -13,7 +13,8 @@ use Rattle.sea_object.specs.Objects.{ObjectMap}
 use Rattle.sea_omap.specs.Calls.{IsGiven}
 use Rattle.sea_ops.specs.WellFormed.{IsWellFormed}
 use Rattle.sea_ops.specs.Calls.{IsFree, Meets, Refuses}
-use Rattle.sea_ops.specs.Transactions.{Waits, AreDone, WasGiven, MeetsAll, IsStable, IsStablyRefused}
+use Rattle.sea_ops.specs.Transactions.{Waits, AreDone, WasGiven, GivenUntil, MeetsAll}
+use Rattle.sea_ops.specs.Transactions.{IsStable, IsStablyRefused, DoneIsStable, RefusedIsStable}
 use Rattle.sea_ops.proofs.Asked.{formed_as}
 
 -- ---- between two operations
@@ -102,7 +103,7 @@ comes (op ∷ ops) (item ∷ items) old new done store next objects m =
     }
 
 -- A transaction is stable.
-pub stable : (ops : List Op) (items : List Item) (old new : Seen) (done : AreDone ops items old new) → IsStable ops items (WasGiven ops items old new done) old new
+pub stable : DoneIsStable
 stable ops items old new done store next objects m =
     let all = comes ops items old new done store next objects m in (
       ap (λ (refused : Option (ℕ × Why)). model.reply_of refused ops objects) (all.allowed 1) ∙ ap Done (sym all.answers),
@@ -110,10 +111,6 @@ stable ops items old new done store next objects m =
     )
 
 -- ---- a refusal
-
--- the addresses that were given until a refusal
-abbrev pub GivenUntil : (ops : List Op) (items : List Item) (old begun new : Seen) → AreDone ops items old begun → ℕ → Type 0
-GivenUntil ops items old begun new done at = WasGiven ops items old begun done at ⊎ IsGiven begun new at
 
 pub refused_there : (ops : List Op) (items : List Item) (op : Op) (rest : List Op) (why : Why) (old begun new : Seen) (done : AreDone ops items old begun) → Refuses op why begun new → (store : Store) (next : ℕ) (objects : ObjectMap) → MeetsAll store next objects (GivenUntil ops items old begun new done) old new → (number : ℕ) → model.first_refused (ops ++ op ∷ rest) number objects ≡ Some (number + length ops, why)
 unfolding formed_as meets_first
@@ -144,7 +141,7 @@ refused_there (first ∷ ops) (item ∷ items) op rest why old begun new done la
     ∙ ap (λ (n : ℕ). Some (n, why)) (omega arith)
 
 -- A request that was refused is stably so.
-pub stably_refused : (ops : List Op) (items : List Item) (op : Op) (rest : List Op) (why : Why) (old begun new : Seen) (done : AreDone ops items old begun) → Refuses op why begun new → IsStablyRefused ops op rest why (GivenUntil ops items old begun new done) old new
+pub stably_refused : RefusedIsStable
 stably_refused ops items op rest why old begun new done last store next objects m =
     ap (λ (refused : Option (ℕ × Why)). model.reply_of refused (ops ++ op ∷ rest) objects) (refused_there ops items op rest why old begun new done last store next objects m 1)
     ∙ ap (λ (n : ℕ). Refused n why) (omega arith)

@@ -11,7 +11,7 @@ use Rattle.sea_object.specs.Answer as model
 use Rattle.sea_object.specs.Objects.{ObjectMap}
 use Rattle.sea_omap.specs.Calls.{IsGiven}
 use Rattle.sea_ops.specs.WellFormed.{IsWellFormed}
-use Rattle.sea_ops.specs.Calls.{IsFree, Does}
+use Rattle.sea_ops.specs.Calls.{IsFree, Does, Refuses}
 
 -- Between two operations of a transaction others may go on: they may be given addresses, and what
 -- the transaction hasn't changed may change. What it has read and changed stays.
@@ -64,3 +64,24 @@ IsStablyRefused ops op rest why given old new =
     (store : Store) (next : ℕ) (objects : ObjectMap)
     → MeetsAll store next objects given old new
     → model.answer (ops ++ op ∷ rest) objects ≡ Refused (length ops + 1) why
+
+-- ---- the law of transactions
+
+-- Operations that were each done, one after the other, make a stable transaction.
+abbrev pub DoneIsStable : Type 0
+DoneIsStable =
+    (ops : List Op) (items : List Item) (old new : Seen) (done : AreDone ops items old new)
+    → IsStable ops items (WasGiven ops items old new done) old new
+
+-- an address was given to an operation, or to the one behind them that was refused
+abbrev pub GivenUntil : (ops : List Op) (items : List Item) (old begun new : Seen)
+    → AreDone ops items old begun → ℕ → Type 0
+GivenUntil ops items old begun new done at =
+    WasGiven ops items old begun done at ⊎ IsGiven begun new at
+
+-- An operation that was refused behind others that were done makes a request stably refused.
+abbrev pub RefusedIsStable : Type 0
+RefusedIsStable =
+    (ops : List Op) (items : List Item) (op : Op) (rest : List Op) (why : Why)
+    (old begun new : Seen) (done : AreDone ops items old begun) → Refuses op why begun new
+    → IsStablyRefused ops op rest why (GivenUntil ops items old begun new done) old new

@@ -3,8 +3,10 @@
 
 mod asking;
 mod attributes;
+mod law;
 mod making;
 
 pub use asking::{get_attr, get_attrs, list, omap_get, omap_list, read, stat};
 pub use attributes::{remove_attr, set_attr};
+pub use law::transaction_laws;
 pub use making::touch;
