@@ -2,7 +2,7 @@
 use Rattle.std.specs.Prelude.{◌≡◌, ◌≢◌, ℕ, ◌<◌, List, ◌∷◌, Bool, false, true, Option, Some, None, is_some, length, slice_get, ◌≤◌}
 use Rattle.sea_base.specs.declared.place.Commit.{Commit}
 use Rattle.sea_sets.specs.Notes.{note_at}
-use Rattle.sea_sets.specs.Versions.{Stands, first_note, moved_on}
+use Rattle.sea_sets.specs.Versions.{AllStand, IsFirstConflict, first_note, moved_on}
 use Rattle.sea_sets.specs.declared.board.Board.{Board}
 use Rattle.sea_sets.specs.declared.board.Conflict.{Conflict}
 use Rattle.sea_sets.specs.declared.notes.Change.{Change}
@@ -85,11 +85,8 @@ pub record Marks (committer : ℕ) (commit : Commit) (changed : List Change) (ol
 
 -- no version that the client's transaction found has moved
 abbrev pub HasNoConflict : Board → ℕ → Type 0
-HasNoConflict board client = (at : ℕ) → Stands (noted board client at)
+HasNoConflict board client = AllStand (noted board client)
 
 -- this is the least address whose version has moved, with the version found and the one there now
-pub record IsConflict (board : Board) (client : ℕ) (conflict : Conflict) : Type 0 where
-  pub found : noted board client conflict.at.0
-      ≡ Some (record { seen = conflict.seen; current = conflict.current })
-  pub moved : conflict.current ≢ conflict.seen
-  pub least : (q : ℕ) → q < conflict.at.0 → Stands (noted board client q)
+abbrev pub IsConflict : Board → ℕ → Conflict → Type 0
+IsConflict board client conflict = IsFirstConflict (noted board client) conflict

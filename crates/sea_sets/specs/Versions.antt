@@ -1,9 +1,10 @@
 -- What was noted of an address, and what commits make of that.
-use Rattle.std.specs.Prelude.{◌≡◌, ℕ, List, [], ◌∷◌, Option, Some, None, if◌then◌else◌, nat_eq}
+use Rattle.std.specs.Prelude.{◌≡◌, ◌≢◌, ℕ, ◌<◌, List, [], ◌∷◌, Option, Some, None, if◌then◌else◌, nat_eq}
 use Rattle.std.specs.Option.{ForSome, option_map}
 use Rattle.std.specs.Ordering.{nat_cmp}
 use Rattle.std.specs.BTreeMap.{BTreeMap, get}
 use Rattle.sea_base.specs.declared.place.Commit.{Commit}
+use Rattle.sea_sets.specs.declared.board.Conflict.{Conflict}
 use Rattle.sea_sets.specs.declared.notes.Change.{Change}
 use Rattle.sea_sets.specs.declared.notes.Note.{Note}
 
@@ -35,3 +36,14 @@ first_note (Some note) seen = note
 -- nothing has moved
 abbrev pub IsQuiet : BTreeMap ℕ Note → Type 0
 IsQuiet notes = (at : ℕ) → Stands (get nat_cmp notes at)
+
+-- no version that was found has moved
+abbrev pub AllStand : (ℕ → Option Note) → Type 0
+AllStand noted = (at : ℕ) → Stands (noted at)
+
+-- this is the least address whose version has moved, with the version found and the one there now
+pub record IsFirstConflict (noted : ℕ → Option Note) (conflict : Conflict) : Type 0 where
+  pub found : noted conflict.at.0
+      ≡ Some (record { seen = conflict.seen; current = conflict.current })
+  pub moved : conflict.current ≢ conflict.seen
+  pub least : (q : ℕ) → q < conflict.at.0 → Stands (noted q)
