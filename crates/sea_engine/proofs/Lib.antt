@@ -1,0 +1,5 @@
+pub mod Backs
+pub mod Examples
+pub mod Held
+pub mod Phases
+pub mod Totals

@@ -1,0 +1,13 @@
+//! What holds of each run of turns.
+ghost use Rattle.sea_engine.specs.TurnLaws.{Acknowledges, Appends, SendsAllBack, SendsOneBack, ServesPlan};
+
+/// A run of turns keeps a history that serves the plan, each client's requests once and in order.
+/// No more is acknowledged than is entered, the history is only added to, and clients are sent back
+/// no more often than others' requests were done meanwhile.
+pub fn turn_laws()
+    ensures serves { ServesPlan }
+    ensures acknowledged { Acknowledges }
+    ensures goes_on { Appends }
+    ensures sent_back { SendsOneBack }
+    ensures all_sent_back { SendsAllBack }
+{}

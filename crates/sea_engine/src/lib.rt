@@ -1,0 +1,6 @@
+//! Many clients over a journal.
+#![tactic(auto)]
+
+mod law;
+
+pub use law::turn_laws;
