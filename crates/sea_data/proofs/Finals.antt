@@ -19,7 +19,7 @@ use Rattle.sea_data.proofs.Taking.{grows_agrees, Leaves, leaves}
 use Rattle.sea_data.proofs.Parts.{byte_same, does_grows, does_parts}
 use Rattle.sea_data.proofs.Contents.{grown, bytes_written, bytes_resized}
 use Rattle.sea_data.proofs.Patches.{part_form}
-use Rattle.sea_data.proofs.Footprints.{as_before_same, next_same, reads_same, changes_then, reads_then, changes_one, is_placed, still_placed, Within, parts_change, parts_read, parts_next, parts_placed, end_changes, end_reads, end_next, end_whole, past_end, elsewhere_same}
+use Rattle.sea_data.proofs.Footprints.{as_before_same, reads_same, changes_then, reads_then, changes_one, is_placed, still_placed, Within, parts_change, parts_read, parts_placed, end_changes, end_reads, end_whole, past_end, elsewhere_same}
 
 -- all blocks of a range
 all_within : (offset count : ℕ) → 1 ≤ count → Within offset (offset + count) (blocks_touched offset count)
@@ -35,9 +35,6 @@ module _ (onode : Onode) (offset : ℕ) (bytes : List ℕ) (old between new : Se
       (end_changes onode.base.0 onode.size offset (offset + length bytes) cleared)
       (parts_change onode.base.0 offset bytes (blocks_touched offset (length bytes)) (all_within offset (length bytes) some) does)
 
-  written_next : new.next ≡ old.next
-  written_next = parts_next onode.base.0 offset bytes (blocks_touched offset (length bytes)) between new does ∙ end_next onode.base.0 onode.size offset (offset + length bytes) cleared
-
   pub write_footprint : WriteFootprint onode offset (offset + length bytes) old new
   write_footprint = record {
     reads = reads_then old between new onode.base.0 (λ i. (Covers offset (offset + length bytes) i → ⊥) × HoldsOldEnd onode.size (offset + length bytes) i) (λ i. (Covers offset (offset + length bytes) i → ⊥) × Touches offset (offset + length bytes) i) (IsReadFor onode.size offset (offset + length bytes)) (λ i h. (h.0, inr h.1)) (λ i t. (t.0, inl t.1))
@@ -51,15 +48,14 @@ module _ (onode : Onode) (offset : ℕ) (bytes : List ℕ) (old between new : Se
       | inl here ↦ inl here
       | inr same ↦ inr (same.whole ∙ end_whole onode.base.0 onode.size offset (offset + length bytes) old between cleared at)
     ];
-    next = written_next;
   }
 
   changed_small : onode.size ≤ 16777216 → (i : ℕ) → IsChangedFor onode.size offset (offset + length bytes) i → (4096 * i < max onode.size (offset + length bytes)) × (i < 4096)
   changed_small limit i (inl touches) = let a = touches.1 in (omega arith, omega arith)
   changed_small limit i (inr holds) = let a = holds.1 in let b = holds.0 in (omega arith, omega arith)
 
-  pub write_becomes : (store : Store) → Meets store onode old new → Becomes store onode (max onode.size (offset + length bytes)) (written offset bytes (bytes_of (laid old store) onode.base.0 onode.size)) old new
-  write_becomes store meets =
+  pub write_becomes : (store : Store) (next : ℕ) → Meets store next onode old new → Becomes store next onode (max onode.size (offset + length bytes)) (written offset bytes (bytes_of (laid old store) onode.base.0 onode.size)) old new
+  write_becomes store next meets =
       let order = meets.order in
       let limit = order.within in
       let high = order.high in
@@ -71,7 +67,7 @@ module _ (onode : Onode) (offset : ℕ) (bytes : List ℕ) (old between new : Se
         bytes = bytes_written onode.base.0 onode.size offset bytes (4096 * (offset / 4096 + blocks_touched offset (length bytes))) (laid old store) (laid between store) (laid new store) limit fits wide more wrote;
         order = record {
           low = order.low;
-          high = omega (arith, written_next);
+          high = order.high;
           within = omega arith;
           none_past = λ i small past.
               past_end onode.base.0 (IsChangedFor onode.size offset (offset + length bytes)) store changed_blocks i small (λ j h. let b = changed_small limit j h in let b0 = b.0 in (b.1, λ same. absurd (omega arith)))
@@ -84,12 +80,12 @@ module _ (onode : Onode) (offset : ℕ) (bytes : List ℕ) (old between new : Se
 pub zero_becomes : (onode : Onode) (offset count : ℕ) (old between new : Seen) → 1 ≤ count → offset + count ≤ 16777216
     → ClearsOldEnd onode.base.0 onode.size offset (offset + count) old between
     → Does (part_steps onode.base.0 offset (replicate count 0) (blocks_touched offset count)) between new
-    → (store : Store) → Meets store onode old new → Becomes store onode (max onode.size (offset + count)) (written offset (replicate count 0) (bytes_of (laid old store) onode.base.0 onode.size)) old new
+    → (store : Store) (next : ℕ) → Meets store next onode old new → Becomes store next onode (max onode.size (offset + count)) (written offset (replicate count 0) (bytes_of (laid old store) onode.base.0 onode.size)) old new
 zero_becomes onode offset count old between new =
     subst (λ (n : ℕ). 1 ≤ n → offset + n ≤ 16777216
     → ClearsOldEnd onode.base.0 onode.size offset (offset + n) old between
     → Does (part_steps onode.base.0 offset (replicate count 0) (blocks_touched offset n)) between new
-    → (store : Store) → Meets store onode old new → Becomes store onode (max onode.size (offset + n)) (written offset (replicate count 0) (bytes_of (laid old store) onode.base.0 onode.size)) old new)
+    → (store : Store) (next : ℕ) → Meets store next onode old new → Becomes store next onode (max onode.size (offset + n)) (written offset (replicate count 0) (bytes_of (laid old store) onode.base.0 onode.size)) old new)
     (length-replicate {A = ℕ} count 0) (λ some fits cleared does. write_becomes onode offset (replicate count 0) old between new some fits cleared does)
 
 pub zero_footprint : (onode : Onode) (offset count : ℕ) (old between new : Seen) → 1 ≤ count → offset + count ≤ 16777216
@@ -148,10 +144,6 @@ drops_unread : (base first n : ℕ) (old new : Seen) → Does (drop_steps base f
 drops_unread base first zero old new same at = reads_same at same
 drops_unread base first (suc n) old new does at = does.2.writes.reads at ∙ drops_unread base first n old does.0 does.1 at
 
-drops_next : (base first n : ℕ) (old new : Seen) → Does (drop_steps base first n) old new → new.next ≡ old.next
-drops_next base first zero old new same = next_same same
-drops_next base first (suc n) old new does = does.2.writes.next ∙ drops_next base first n old does.0 does.1
-
 -- each was dropped
 drops_gone : (base first n : ℕ) (old new : Seen) → first + n ≤ 2 ^ 32 → Does (drop_steps base first n) old new → (i : ℕ) → first ≤ i → i < first + n → IsPlaced (block_address base i) new × (new.view (block_address base i) ≡ None)
 drops_gone base first zero old new few same i low high = absurd (omega arith)
@@ -184,16 +176,12 @@ module _ (onode : Onode) (size first last : ℕ) (old between new : Seen)
   cut_gone : (i : ℕ) → BeginsBetween size onode.size i → IsPlaced (block_address onode.base.0 i) new × (new.view (block_address onode.base.0 i) ≡ None)
   cut_gone i begins = let a = begins.0 in let b = begins.1 in drops_gone onode.base.0 first (last - first) between new (omega arith) does i (omega arith) (omega arith)
 
-  cut_next : new.next ≡ old.next
-  cut_next = drops_next onode.base.0 first (last - first) between new does ∙ end_next onode.base.0 onode.size size size cleared
-
   pub cut_footprint : CutFootprint onode size old new
   cut_footprint = record {
     reads = reads_then old between new onode.base.0 (λ i. (Covers size size i → ⊥) × HoldsOldEnd onode.size size i) (λ i. (Covers size size i → ⊥) × HoldsOldEnd onode.size size i) (HoldsOldEnd onode.size size) (λ i h. h.1) (λ i h. h.1)
         (end_reads onode.base.0 onode.size size size cleared) (λ at. inl (drops_unread onode.base.0 first (last - first) between new does at));
     changes = cut_blocks;
     dropped = cut_gone;
-    next = cut_next;
   }
 
   kept_byte : (store : Store) → onode.size ≤ 16777216 → (k : ℕ) → k < size → byte_at (laid new store) onode.base.0 k ≡ byte_at (laid between store) onode.base.0 k
@@ -209,8 +197,8 @@ module _ (onode : Onode) (size first last : ℕ) (old between new : Seen)
   cut_apart limit i past j (inl begins) = let a = begins.1 in (omega arith, λ same. absurd (omega arith))
   cut_apart limit i past j (inr holds) = let a = holds.1 in (omega arith, λ same. absurd (omega arith))
 
-  pub cut_becomes : (store : Store) → Meets store onode old new → Becomes store onode size (resized size (bytes_of (laid old store) onode.base.0 onode.size)) old new
-  cut_becomes store meets =
+  pub cut_becomes : (store : Store) (next : ℕ) → Meets store next onode old new → Becomes store next onode size (resized size (bytes_of (laid old store) onode.base.0 onode.size)) old new
+  cut_becomes store next meets =
       let order = meets.order in
       let limit = order.within in
       let high = order.high in
@@ -222,7 +210,7 @@ module _ (onode : Onode) (size first last : ℕ) (old between new : Seen)
             (λ k past within. kept_byte store limit k within ∙ more.zeros k past within within);
         order = record {
           low = order.low;
-          high = omega (arith, cut_next);
+          high = order.high;
           within = fits;
           none_past = λ i small past. elim (cases_lt (4096 * i) onode.size) [
             | inl was ↦ (let gone = cut_gone i (past, was) in laid_changed new store (block_address onode.base.0 i) gone.0.changed ∙ gone.1)

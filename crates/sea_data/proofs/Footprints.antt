@@ -20,9 +20,6 @@ as_before_same {old} {new} at same = subst (λ (s : Seen). IsAsBefore old s at) 
 pub reads_same : {old new : Seen} (at : ℕ) → new ≡ old → new.reads at ≡ old.reads at
 reads_same at same = ap (λ (s : Seen). s.reads at) same
 
-pub next_same : {old new : Seen} → new ≡ old → new.next ≡ old.next
-next_same same = ap (λ (s : Seen). s.next) same
-
 -- edits of blocks of a kind
 pub changes_then : {a b c : Seen} (base : ℕ) (P Q R : ℕ → Type 0) → ((i : ℕ) → P i → R i) → ((i : ℕ) → Q i → R i) → ChangesBlocks base P a b → ChangesBlocks base Q b c → ChangesBlocks base R a c
 changes_then base P Q R p q first later at =
@@ -101,11 +98,6 @@ parts_read base offset bytes (suc n) old new w does =
     (parts_read base offset bytes n old does.0 (within_less offset (offset + length bytes) n w) does.1)
     (reads_part base offset bytes (offset / 4096 + n) (touches_last offset (offset + length bytes) n w) does.2)
 
-pub parts_next : (base offset : ℕ) (bytes : List ℕ) (n : ℕ) (old new : Seen) → Does (part_steps base offset bytes n) old new → new.next ≡ old.next
-parts_next base offset bytes zero old new same = next_same same
-parts_next base offset bytes (suc n) old new does =
-    (leaves (block_address base (offset / 4096 + n)) (Over (offset - 4096 * (offset / 4096 + n)) (part_of offset bytes (offset / 4096 + n))) does.2).next ∙ parts_next base offset bytes n old does.0 does.1
-
 -- what was placed whole is so
 pub is_placed : {at : ℕ} {block : Option (List ℕ)} {old new : Seen} → Places at block old new → IsPlaced at new
 is_placed p = record { changed = changed_here p.writes; whole = p.whole; splices = p.splices }
@@ -141,10 +133,6 @@ end_changes base size from to (inr c) = changes_one base c.0 (HoldsOldEnd size t
 pub end_reads : (base size from to : ℕ) {old new : Seen} → ClearsOldEnd base size from to old new → ReadsBlocks base (λ i. (Covers from to i → ⊥) × HoldsOldEnd size to i) old new
 end_reads base size from to (inl kept) = λ at. inl (reads_same at kept.0)
 end_reads base size from to (inr c) = reads_one base c.0 (λ (i : ℕ). (Covers from to i → ⊥) × HoldsOldEnd size to i) (c.2, c.1) (leaves (block_address base c.0) (Clear (size - 4096 * c.0)) c.3)
-
-pub end_next : (base size from to : ℕ) {old new : Seen} → ClearsOldEnd base size from to old new → new.next ≡ old.next
-end_next base size from to (inl kept) = next_same kept.0
-end_next base size from to (inr c) = (leaves (block_address base c.0) (Clear (size - 4096 * c.0)) c.3).next
 
 -- a block that is zeroed past an old end is amended, and not placed
 clear_kept : (at cut : ℕ) (found : Option (List ℕ)) (old new : Seen) → Clears at cut found old new → (q : ℕ) → new.whole q ≡ old.whole q

@@ -20,7 +20,6 @@ pub record Leaves (at : ℕ) (old new : Seen) : Type 0 where
   pub reads : (q : ℕ) → q ≢ at → new.reads q ≡ old.reads q
   pub others : (q : ℕ) → q ≢ at → IsAsBefore old new q
   pub laid : (store : Store) (q : ℕ) → q ≢ at → laid new store q ≡ laid old store q
-  pub next : new.next ≡ old.next
 
 leaves_write : {at : ℕ} {block : Option (List ℕ)} {old new : Seen} → Writes at block old new → Leaves at old new
 leaves_write {at} {block} {old} {new} w = record {
@@ -28,7 +27,6 @@ leaves_write {at} {block} {old} {new} w = record {
   reads = λ q ne. w.reads q;
   others = λ q ne. record { changed = changed_others w q ne; view = λ c. w.others q ne; whole = w.whole q ne; splices = w.splices q ne };
   laid = λ store q ne. laid_others w store q ne;
-  next = w.next;
 }
 
 leaves_read : {at : ℕ} {old new : Seen} → ReadsAtMost at old new → Leaves at old new
@@ -37,7 +35,6 @@ leaves_read {at} {old} {new} r = record {
   reads = r.others;
   others = λ q ne. record { changed = r.only.changed q; view = λ c. r.only.known q (inl c); whole = r.only.whole q; splices = r.only.splices q };
   laid = λ store q ne. laid-only_read r.only store q;
-  next = r.only.next;
 }
 
 pub as_before_then : {a b c : Seen} {q : ℕ} → IsAsBefore a b q → IsAsBefore b c q → IsAsBefore a c q
@@ -54,7 +51,6 @@ leaves_then first later = record {
   reads = λ q ne. later.reads q ne ∙ first.reads q ne;
   others = λ q ne. as_before_then (first.others q ne) (later.others q ne);
   laid = λ store q ne. later.laid store q ne ∙ first.laid store q ne;
-  next = later.next ∙ first.next;
 }
 
 -- no call at all
@@ -64,7 +60,6 @@ leaves_none {at} {old} {new} same = subst (λ (s : Seen). Leaves at old s) (sym 
   reads = λ q ne. refl;
   others = λ q ne. record { changed = refl; view = λ c. refl; whole = refl; splices = refl };
   laid = λ store q ne. refl;
-  next = refl;
 })
 
 -- what a read shows is what an agreeing store has

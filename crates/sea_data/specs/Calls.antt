@@ -17,18 +17,18 @@ pub record IsInOrder (store : Store) (base size next : ℕ) : Type 0 where
   pub within : size ≤ 16777216
   pub none_past : (i : ℕ) → i < 4096 → size ≤ 4096 * i → store (block_address base i) ≡ None
 
--- A store that a call speaks of: it agrees with what was read as the call ends, and with the
--- changes made before the call laid over it the onode is in good order.
-pub record Meets (store : Store) (onode : Onode) (old new : Seen) : Type 0 where
+-- A store that a call speaks of, with its next address: it agrees with what was read as the call
+-- ends, and with the changes made before the call laid over it the onode is in good order.
+pub record Meets (store : Store) (next : ℕ) (onode : Onode) (old new : Seen) : Type 0 where
   pub agrees : Agrees store new
-  pub order : IsInOrder (laid old store) onode.base.0 onode.size old.next
+  pub order : IsInOrder (laid old store) onode.base.0 onode.size next
 
 -- With the changes of the call laid over it, the object has these bytes at its new size, an onode
 -- of that size is in good order, and no address has another block but its own data blocks.
-pub record Becomes (store : Store) (onode : Onode) (size : ℕ) (after : List ℕ)
+pub record Becomes (store : Store) (next : ℕ) (onode : Onode) (size : ℕ) (after : List ℕ)
     (old new : Seen) : Type 0 where
   pub bytes : bytes_of (laid new store) onode.base.0 size ≡ after
-  pub order : IsInOrder (laid new store) onode.base.0 size new.next
+  pub order : IsInOrder (laid new store) onode.base.0 size next
   pub elsewhere : (at : ℕ) → (AtBlock onode.base.0 (λ i. i < 4096) at → ⊥)
       → laid new store at ≡ laid old store at
 
@@ -48,8 +48,6 @@ pub record WriteFootprint (onode : Onode) (from to : ℕ) (old new : Seen) : Typ
   pub placed : (i : ℕ) → Covers from to i → IsPlaced (block_address onode.base.0 i) new
   -- no other block was placed whole: the one that holds the old end is amended, if it is changed
   pub whole : (at : ℕ) → AtBlock onode.base.0 (Touches from to) at ⊎ (new.whole at ≡ old.whole at)
-  -- no address was given
-  pub next : new.next ≡ old.next
 
 -- the splice that zeros the bytes past an old end, or none
 abbrev pub MayClear : ℕ → ℕ → ℕ → List Delta → Type 0
@@ -90,8 +88,6 @@ pub record CutFootprint (onode : Onode) (size : ℕ) (old new : Seen) : Type 0 w
   pub dropped : (i : ℕ) → BeginsBetween size onode.size i
       → IsPlaced (block_address onode.base.0 i) new
       × (new.view (block_address onode.base.0 i) ≡ None)
-  -- no address was given
-  pub next : new.next ≡ old.next
 
 -- How it was changed: the bytes past the old end were zeroed where the object is enlarged, then
 -- each block from the new end on before the old one was dropped.

@@ -1,5 +1,5 @@
 //! Changing an object's size.
-ghost use Rattle.std.specs.Prelude.{◌≡◌, ◌-◌, ◌≤◌, OnOk};
+ghost use Rattle.std.specs.Prelude.{◌≡◌, ℕ, ◌-◌, ◌≤◌, OnOk};
 ghost use Rattle.std.specs.Result.{result_err};
 ghost use Rattle.sea_base.specs.Ghosts.{IsReady, IsCall};
 ghost use Rattle.sea_base.specs.Space.{Store, laid};
@@ -24,14 +24,15 @@ pub fn cut<S: Space>(
 ) -> Result<(), SpaceFault>
     requires ready { IsReady S.Space space.old }
     requires range { size ≤ 16777216 }
-    ensures changed { OnOk result ((store : Store)
-        → Meets store onode.now (S.seen space.old) (S.seen space.new)
-        → Becomes store onode.now size
+    ensures changed { OnOk result ((store : Store) (next : ℕ)
+        → Meets store next onode.now (S.seen space.old) (S.seen space.new)
+        → Becomes store next onode.now size
         (resized size (bytes_of (laid (S.seen space.old) store) onode.now.base.0 onode.now.size))
         (S.seen space.old) (S.seen space.new)) }
     ensures form { OnOk result (CutForm onode.now size (S.seen space.old) (S.seen space.new)) }
     ensures footprint { OnOk result
         (CutFootprint onode.now size (S.seen space.old) (S.seen space.new)) }
+    ensures next { (S.seen space.new).next ≡ (S.seen space.old).next }
     ensures call { IsCall S.Space space.old space.new (result_err result) }
 {
     clear_old_end(alloc, space, onode, size, size)?;
@@ -45,6 +46,7 @@ fn drop_blocks<S: Space>(space: &mut S, onode: &Onode, from: u32, to: u32) -> Re
     requires { IsReady S.Space space.old }
     ensures done { OnOk result (Does (drop_steps onode.now.base.0 from (to - from))
         (S.seen space.old) (S.seen space.new)) }
+    ensures next { (S.seen space.new).next ≡ (S.seen space.old).next }
     ensures call { IsCall S.Space space.old space.new (result_err result) }
 {
     for index in from..to {

@@ -25,6 +25,7 @@ pub(crate) fn write_part<S: Space>(
     requires room { place + length bytes.now ≤ 4096 }
     ensures taken { OnOk result
         (Takes at.0 (Over place bytes.now) (S.seen space.old) (S.seen space.new)) }
+    ensures next { (S.seen space.new).next ≡ (S.seen space.old).next }
     ensures call { IsCall S.Space space.old space.new (result_err result) }
 {
     if bytes.len() == BLOCK_BYTES {
@@ -59,6 +60,7 @@ pub(crate) fn clear_from<S: Space>(
     requires ready { IsReady S.Space space.old }
     requires cut { cut ≤ 4096 }
     ensures taken { OnOk result (Takes at.0 (Clear cut) (S.seen space.old) (S.seen space.new)) }
+    ensures next { (S.seen space.new).next ≡ (S.seen space.old).next }
     ensures call { IsCall S.Space space.old space.new (result_err result) }
 {
     let Some(block) = space.get(at)? else {
@@ -90,6 +92,7 @@ fn amend<S: Space>(
     requires room { IsSplice delta.cut delta.gone delta.put }
     ensures spliced { OnOk result
         (IsSpliced at.0 delta block.now (S.seen space.old) (S.seen space.new)) }
+    ensures next { (S.seen space.new).next ≡ (S.seen space.old).next }
     ensures call { IsCall S.Space space.old space.new (result_err result) }
 {
     // A block has 4,096 bytes.

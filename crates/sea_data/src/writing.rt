@@ -1,5 +1,5 @@
 //! Writing an object's bytes.
-ghost use Rattle.std.specs.Prelude.{◌≡◌, ◌+◌, ◌-◌, ◌/◌, ◌<◌, ◌≤◌, length, max, replicate, OnOk};
+ghost use Rattle.std.specs.Prelude.{◌≡◌, ℕ, ◌+◌, ◌-◌, ◌/◌, ◌<◌, ◌≤◌, length, max, replicate, OnOk};
 ghost use Rattle.std.specs.Result.{result_err};
 ghost use Rattle.sea_base.specs.Ghosts.{IsReady, IsCall};
 ghost use Rattle.sea_base.specs.Space.{Store, laid};
@@ -27,9 +27,9 @@ pub fn write<S: Space>(
 ) -> Result<(), SpaceFault>
     requires ready { IsReady S.Space space.old }
     requires range { IsWritten offset (length bytes.now) }
-    ensures changed { OnOk result ((store : Store)
-        → Meets store onode.now (S.seen space.old) (S.seen space.new)
-        → Becomes store onode.now (max onode.now.size (offset + length bytes.now))
+    ensures changed { OnOk result ((store : Store) (next : ℕ)
+        → Meets store next onode.now (S.seen space.old) (S.seen space.new)
+        → Becomes store next onode.now (max onode.now.size (offset + length bytes.now))
         (written offset bytes.now
         (bytes_of (laid (S.seen space.old) store) onode.now.base.0 onode.now.size))
         (S.seen space.old) (S.seen space.new)) }
@@ -37,6 +37,7 @@ pub fn write<S: Space>(
         (WriteForm onode.now offset bytes.now (S.seen space.old) (S.seen space.new)) }
     ensures footprint { OnOk result (WriteFootprint onode.now offset (offset + length bytes.now)
         (S.seen space.old) (S.seen space.new)) }
+    ensures next { (S.seen space.new).next ≡ (S.seen space.old).next }
     ensures call { IsCall S.Space space.old space.new (result_err result) }
 {
     let end = offset + bytes.len() as u32;
@@ -55,9 +56,9 @@ pub fn zero<S: Space>(
 ) -> Result<(), SpaceFault>
     requires ready { IsReady S.Space space.old }
     requires range { IsWritten offset length }
-    ensures changed { OnOk result ((store : Store)
-        → Meets store onode.now (S.seen space.old) (S.seen space.new)
-        → Becomes store onode.now (max onode.now.size (offset + length))
+    ensures changed { OnOk result ((store : Store) (next : ℕ)
+        → Meets store next onode.now (S.seen space.old) (S.seen space.new)
+        → Becomes store next onode.now (max onode.now.size (offset + length))
         (written offset (replicate length 0)
         (bytes_of (laid (S.seen space.old) store) onode.now.base.0 onode.now.size))
         (S.seen space.old) (S.seen space.new)) }
@@ -65,6 +66,7 @@ pub fn zero<S: Space>(
         (S.seen space.old) (S.seen space.new)) }
     ensures footprint { OnOk result (WriteFootprint onode.now offset (offset + length)
         (S.seen space.old) (S.seen space.new)) }
+    ensures next { (S.seen space.new).next ≡ (S.seen space.old).next }
     ensures call { IsCall S.Space space.old space.new (result_err result) }
 {
     clear_old_end(alloc, space, onode, offset, offset + length)?;
@@ -84,6 +86,7 @@ pub(crate) fn clear_old_end<S: Space>(
     requires range { to ≤ 16777216 }
     ensures done { OnOk result (ClearsOldEnd onode.now.base.0 onode.now.size from to
         (S.seen space.old) (S.seen space.new)) }
+    ensures next { (S.seen space.new).next ≡ (S.seen space.old).next }
     ensures call { IsCall S.Space space.old space.new (result_err result) }
 {
     let index = onode.size / BYTES;
@@ -109,6 +112,7 @@ fn write_parts<S: Space>(
     requires range { IsWritten offset (length bytes.now) }
     ensures done { OnOk result (Does (part_steps onode.now.base.0 offset bytes.now
         (blocks_touched offset (length bytes.now))) (S.seen space.old) (S.seen space.new)) }
+    ensures next { (S.seen space.new).next ≡ (S.seen space.old).next }
     ensures call { IsCall S.Space space.old space.new (result_err result) }
 {
     let end = offset + bytes.len() as u32;
@@ -132,6 +136,7 @@ fn zero_parts<S: Space>(
     requires range { IsWritten offset length }
     ensures done { OnOk result (Does (part_steps onode.now.base.0 offset (replicate length 0)
         (blocks_touched offset length)) (S.seen space.old) (S.seen space.new)) }
+    ensures next { (S.seen space.new).next ≡ (S.seen space.old).next }
     ensures call { IsCall S.Space space.old space.new (result_err result) }
 {
     let zeros = zeros(alloc, BLOCK_BYTES.min(length as usize))?;

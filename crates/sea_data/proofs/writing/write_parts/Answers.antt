@@ -13,6 +13,7 @@ loop-index-preserved g c =
           (part_taken c.args.onode.now.base.0 c.args.offset c.loop-index.index c.args.bytes.now c.address_of.result.0 c.of-part.result.place (slice_range c.args.bytes.now c.of-part.result.from c.of-part.result.to) (g.S.Space.seen c.loop-index.space) (g.S.Space.seen c.write_part.new.space) c.address_of.ensures c.of-part.ensures.place
           (ap (λ (n : ℕ). slice_range c.args.bytes.now n c.of-part.result.to) c.of-part.ensures.from ∙ ap (λ (n : ℕ). slice_range c.args.bytes.now (4096 * c.loop-index.index - c.args.offset) n) c.of-part.ensures.to)
           c.in_ok-write_part.ensures.taken);
+      next = c.in_ok-write_part.ensures.next ∙ was.next;
       call = call_then g.S.Space g.met.S.Space.frame {fault = None} was.call c.in_ok-write_part.ensures.call;
     }
 

@@ -11,5 +11,6 @@ loop-index-preserved g c =
           (part_taken c.args.onode.now.base.0 c.args.offset c.loop-index.index (replicate c.args.length 0) c.address_of.result.0 c.of-part.result.place (take (c.of-part.result.to - c.of-part.result.from) c.deref.result.now) (g.S.Space.seen c.loop-index.space) (g.S.Space.seen c.write_part.new.space) c.address_of.ensures c.of-part.ensures.place
           (zeros_part_of c.args.offset c.loop-index.index c.args.length c.min.result c.of-part.result.from c.of-part.result.to c.deref.result.now (c.deref.ensures.value ∙ c.in_ok-zeros.ensures) c.of-part.ensures.from c.of-part.ensures.to c.of-part.ensures.within (omega (arith, c.min.ensures, c.of-part.ensures.room, c.of-part.ensures.within)))
           c.in_ok-write_part.ensures.taken);
+      next = c.in_ok-write_part.ensures.next ∙ was.next;
       call = call_then g.S.Space g.met.S.Space.frame {fault = None} was.call c.in_ok-write_part.ensures.call;
     }
