@@ -2,7 +2,6 @@
 #![tactic(auto)]
 
 mod run;
-mod streams;
 
 use run::{Ended, run};
 

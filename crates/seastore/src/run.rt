@@ -3,9 +3,9 @@ ghost use Rattle.std.specs.Prelude.{◌≡◌, IfOk, OnErr};
 ghost use Rattle.std.specs.Process.{exit_status};
 ghost use Rattle.sea_top.specs.Refusal.{status_of};
 
-use crate::streams::{StdSink, StdSource};
 use sea_base::NoMemory;
 use sea_device::SteadyDevice;
+use sea_file::{StdSink, StdSource};
 use sea_top::{Refusal, Status, tool};
 use std::io::Eprint;
 use std::process::{ExitCode, Termination};

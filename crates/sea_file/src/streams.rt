@@ -1,12 +1,15 @@
-//! Standard input as a source, and standard output as a sink. As a source and a sink they tell no bytes;
-//! what they do with those of the reader or the writer, their own clauses say.
+//! A reader as a source, and a writer as a sink. As a source and a sink they tell no bytes; what they do
+//! with those of the reader or the writer, their own clauses say.
 ghost use Rattle.std.specs.Prelude.{◌≡◌, ◌≤◌, ◌<◌, None, length, IfOk};
+ghost use Rattle.std.specs.Io.{ReadsAtMost, WritesAtMost};
 ghost use Rattle.std.specs.Io.KnownBytes.{ReadConsumes, WriteAppends};
 ghost use Rattle.sea_device.specs.Device.{HasCause};
 ghost use Rattle.sea_base.specs.Failures.{CountsFault};
 
+use crate::faults::counted;
 use sea_device::{Failed, Sink, Source};
-use std::io::{Read, Write};
+use std::io;
+use std::io::{ErrorKind, Read, Write};
 
 /// A reader as a source.
 #[derive(Drop)]
@@ -34,17 +37,13 @@ impl<R: Read + Drop> Source for StdSource<R> {
     fn take(&mut self, into: &mut [u8]) -> Result<usize, Failed>
         requires { 0 < length into.old }
         ensures count { IfOk result (λ n. n ≤ length into.old) }
-        ensures reader { ReadConsumes (R.remaining self.old.reader) (R.remaining self.new.reader) result into.new }
+        ensures reader { ReadConsumes (R.remaining self.old.reader) (R.remaining self.new.reader)
+            result into.new }
         ensures faults { CountsFault self.old.faults self.new.faults result }
         ensures cause { HasCause self.old.faults self.new.faults result }
     {
-        match self.reader.read(into) {
-            Ok(count) => Ok(count),
-            Err(_) => {
-                self.faults = self.faults.saturating_add(1);
-                Err(Failed)
-            }
-        }
+        let done = read_again(&mut self.reader, into);
+        counted(&mut self.faults, done)
     }
 }
 
@@ -74,16 +73,43 @@ impl<W: Write + Drop> Sink for StdSink<W> {
     fn put(&mut self, bytes: &[u8]) -> Result<usize, Failed>
         requires { 0 < length bytes.now }
         ensures count { IfOk result (λ n. (1 ≤ n) × (n ≤ length bytes.now)) }
-        ensures writer { WriteAppends (W.contents self.old.writer) (W.contents self.new.writer) result bytes.now }
+        ensures writer { WriteAppends (W.contents self.old.writer) (W.contents self.new.writer)
+            result bytes.now }
         ensures faults { CountsFault self.old.faults self.new.faults result }
         ensures cause { HasCause self.old.faults self.new.faults result }
     {
-        match self.writer.write(bytes) {
-            Ok(count) if count > 0 => Ok(count),
-            _ => {
-                self.faults = self.faults.saturating_add(1);
-                Err(Failed)
-            }
+        let done = match write_again(&mut self.writer, bytes) {
+            Ok(0) => Err(io::Error::from(ErrorKind::WriteZero)),
+            done => done,
+        };
+        counted(&mut self.faults, done)
+    }
+}
+
+// One read, made again where a signal interrupts it.
+fn read_again<R: Read>(reader: &mut R, into: &mut [u8]) -> io::Result<usize>
+    ensures bound { ReadsAtMost result into.new }
+    ensures bytes { ReadConsumes (R.remaining reader.old) (R.remaining reader.new) result into.new }
+{
+    for _ in 0..u64::MAX {
+        match reader.read(into) {
+            Err(e) if e.kind() == ErrorKind::Interrupted => {}
+            done => return done,
         }
     }
+    Err(io::Error::from(ErrorKind::Interrupted))
+}
+
+// One write, made again where a signal interrupts it.
+fn write_again<W: Write>(writer: &mut W, bytes: &[u8]) -> io::Result<usize>
+    ensures bound { WritesAtMost result bytes.now }
+    ensures bytes { WriteAppends (W.contents writer.old) (W.contents writer.new) result bytes.now }
+{
+    for _ in 0..u64::MAX {
+        match writer.write(bytes) {
+            Err(e) if e.kind() == ErrorKind::Interrupted => {}
+            done => return done,
+        }
+    }
+    Err(io::Error::from(ErrorKind::Interrupted))
 }
