@@ -51,11 +51,34 @@ pub record Stands (store : Store) (next : ℕ) (onodes : Onodes) : Type 0 where
   pub trees : (root : ℕ) → IsRoot onodes root → (content : Values) × HasContent store root content
   pub shared : AreSharedOut store onodes
 
+-- what is free is no root
+pub never_root : (store : Store) (onodes : Onodes) (q : ℕ) → IsFree store onodes q → IsRoot onodes q → ⊥
+never_root store onodes q free (inl one) = omega (arith, one, free.low)
+never_root store onodes q free (inr (name, onode, e, inl base)) = free.unused (name, onode, e, (omega (arith, base), omega (arith, base)))
+never_root store onodes q free (inr (name, onode, e, inr omap)) = free.unused (name, onode, e, (omega (arith, omap), omega (arith, omap)))
+
+pub root_apart : (store : Store) (onodes : Onodes) (q first last : ℕ) → ((at : ℕ) → first ≤ at → at < last → IsFree store onodes at) → IsRoot onodes q → (q < first) ⊎ (last ≤ q)
+root_apart store onodes q first last fresh is_root = elim (cases_lt q first) [
+  | inl below ↦ inl below
+  | inr from ↦ elim (cases_lt q last) [ inl within ↦ absurd (never_root store onodes q (fresh q from within) is_root) | inr past ↦ inr past ]
+]
+
 pub either : (found : Option (List ℕ)) → (found ≡ None) ⊎ (found ≢ None)
 either None = inl refl
 either (Some block) = inr (λ e. cc)
 
-module _ (was is : Store) (next first last : ℕ) (onodes : Onodes) (root : ℕ) (after : Values) (s : Stands was next onodes) (of : IsRoot onodes root) (fresh : (at : ℕ) → first ≤ at → at < last → IsFree was onodes at) (c : Changed was is root first last after) where
+-- The store as it is has a tree with this content; nothing else is changed but its root, its nodes
+-- and what was given; and of these, those that are filled are its nodes.
+pub record Reshaped (was is : Store) (root first last : ℕ) (after : Values) : Type 0 where
+  pub content : HasContent is root after
+  pub elsewhere : (at : ℕ) → at ≢ root → (IsNodeOf was root at → ⊥) → (at < first) ⊎ (last ≤ at) → is at ≡ was at
+  pub nodes : (at : ℕ) → IsNodeOf is root at → (at ≡ root) ⊎ (IsNodeOf was root at ⊎ ((first ≤ at) × (at < last)))
+  pub left : (at : ℕ) → (at ≡ root) ⊎ (IsNodeOf was root at ⊎ ((first ≤ at) × (at < last))) → is at ≢ None → IsNodeOf is root at
+
+pub reshaped : (was is : Store) (root first last : ℕ) (after : Values) → Changed was is root first last after → Reshaped was is root first last after
+reshaped was is root first last after c = record { content = c.content; elsewhere = c.elsewhere; nodes = c.nodes; left = c.left }
+
+module _ (was is : Store) (next first last : ℕ) (onodes : Onodes) (root : ℕ) (after : Values) (s : Stands was next onodes) (of : IsRoot onodes root) (fresh : (at : ℕ) → first ≤ at → at < last → IsFree was onodes at) (c : Reshaped was is root first last after) where
   tree_of : (q : ℕ) → IsRoot onodes q → IsTree was q
   tree_of q is_root = (s.trees q is_root).1.tree
 
@@ -68,15 +91,7 @@ module _ (was is : Store) (next first last : ℕ) (onodes : Onodes) (root : ℕ)
 
   -- nor was a root
   root_outside : (q : ℕ) → IsRoot onodes q → (q < first) ⊎ (last ≤ q)
-  root_outside q is_root = elim (cases_lt q first) [
-    | inl below ↦ inl below
-    | inr from ↦ elim (cases_lt q last) [ inl within ↦ absurd (never (fresh q from within) is_root) | inr past ↦ inr past ]
-  ]
-    where
-      never : IsFree was onodes q → IsRoot onodes q → ⊥
-      never free (inl one) = omega (arith, one, free.low)
-      never free (inr (name, onode, e, inl base)) = free.unused (name, onode, e, (omega (arith, base), omega (arith, base)))
-      never free (inr (name, onode, e, inr omap)) = free.unused (name, onode, e, (omega (arith, omap), omega (arith, omap)))
+  root_outside q is_root = root_apart was onodes q first last fresh is_root
 
   -- a node of the tree at its root's own address
   own_root : (q : ℕ) → was q ≢ None → q ≡ root → IsNodeOf was root q
@@ -95,8 +110,8 @@ module _ (was is : Store) (next first last : ℕ) (onodes : Onodes) (root : ℕ)
     same_root = c.elsewhere q differs (λ mine. not_mine q (IsNodeOf-root was q (tree_of q is_root) (IsNodeOf-filled was root q (tree_of root of) mine)) mine) (root_outside q is_root)
 
     -- another tree keeps its content
-    pub other_kept : (content : Values) → HasContent was q content → HasContent is q content
-    other_kept content has = HasContent-kept was is q same_root same_at content has
+    pub other_stays : (content : Values) → HasContent was q content → HasContent is q content
+    other_stays content has = HasContent-kept was is q same_root same_at content has
 
     on : (at : ℕ) → IsNodeOf was q at → IsNodeOf is q at
     on = node_on was is q same_root same_at
@@ -116,8 +131,8 @@ module _ (was is : Store) (next first last : ℕ) (onodes : Onodes) (root : ℕ)
         ]
 
   -- the address of a data block is that of no tree
-  pub data_kept : (name : List ℕ) (onode : Onode) (at : ℕ) → map.get onodes name ≡ Some onode → onode.base.0 + 2 ≤ at → at < onode.base.0 + 4098 → is at ≡ was at
-  data_kept name onode at e from below = c.elsewhere at no_root (λ node. no_root (s.shared.alone root at of node (name, onode, e, within))) side
+  pub data_stays : (name : List ℕ) (onode : Onode) (at : ℕ) → map.get onodes name ≡ Some onode → onode.base.0 + 2 ≤ at → at < onode.base.0 + 4098 → is at ≡ was at
+  data_stays name onode at e from below = c.elsewhere at no_root (λ node. no_root (s.shared.alone root at of node (name, onode, e, within))) side
     where
       within : IsInRange onode at
       within = (omega (arith, from), below)
@@ -214,12 +229,12 @@ module _ (was is : Store) (next first last : ℕ) (onodes : Onodes) (root : ℕ)
   kept_trees : (q : ℕ) → IsRoot onodes q → (content : Values) × HasContent is q content
   kept_trees q is_root = elim (cases_eq q root) [
     | inl e ↦ (after, subst (λ (r : ℕ). HasContent is r after) (sym e) c.content)
-    | inr other ↦ let was_held = s.trees q is_root in (was_held.0, other_kept q is_root other was_held.0 was_held.1)
+    | inr other ↦ let was_held = s.trees q is_root in (was_held.0, other_stays q is_root other was_held.0 was_held.1)
   ]
 
   -- The store stands with the same onodes.
-  pub stands_kept : Stands is (max next last) onodes
-  stands_kept = record {
+  pub stands_still : Stands is (max next last) onodes
+  stands_still = record {
     begun = omega (arith, s.begun);
     ranges = λ name onode e. let r = s.ranges name onode e in (r.0, omega (arith, r.1), r.2);
     apart = s.apart;
@@ -229,14 +244,26 @@ module _ (was is : Store) (next first last : ℕ) (onodes : Onodes) (root : ℕ)
   }
 
   -- What was free and wasn't given is free.
-  pub free_kept : (at : ℕ) → IsFree was onodes at → ((first ≤ at) × (at < last) → ⊥) → IsFree is onodes at
-  free_kept at free apart = record { low = free.low; empty = nothing (either (is at)); unused = free.unused }
+  pub free_still : (at : ℕ) → IsFree was onodes at → ((first ≤ at) × (at < last) → ⊥) → IsFree is onodes at
+  free_still at free apart = record { low = free.low; empty = nothing (either (is at)); unused = free.unused }
     where
-      is_root : (q : ℕ) → IsRoot onodes q → at ≡ q → ⊥
-      is_root q (inl one) e = omega (arith, one, e, free.low)
-      is_root q (inr (name, onode, f, inl base)) e = free.unused (name, onode, f, (omega (arith, base, e), omega (arith, base, e)))
-      is_root q (inr (name, onode, f, inr omap)) e = free.unused (name, onode, f, (omega (arith, omap, e), omega (arith, omap, e)))
-
       nothing : (is at ≡ None) ⊎ (is at ≢ None) → is at ≡ None
       nothing (inl empty) = empty
-      nothing (inr there) = elim (filled_anew at there free.empty) [ inl e ↦ absurd (is_root root of e) | inr given ↦ absurd (apart given) ]
+      nothing (inr there) = elim (filled_anew at there free.empty) [ inl e ↦ absurd (never_root was onodes at free (subst (IsRoot onodes) (sym e) of)) | inr given ↦ absurd (apart given) ]
+
+-- the same where the tree was changed by one call of it
+module _ (was is : Store) (next first last : ℕ) (onodes : Onodes) (root : ℕ) (after : Values) (s : Stands was next onodes) (of : IsRoot onodes root) (fresh : (at : ℕ) → first ≤ at → at < last → IsFree was onodes at) (c : Changed was is root first last after) where
+  shape : Reshaped was is root first last after
+  shape = reshaped was is root first last after c
+
+  pub other_kept : (q : ℕ) → IsRoot onodes q → q ≢ root → (content : Values) → HasContent was q content → HasContent is q content
+  other_kept = other_stays was is next first last onodes root after s of fresh shape
+
+  pub data_kept : (name : List ℕ) (onode : Onode) (at : ℕ) → map.get onodes name ≡ Some onode → onode.base.0 + 2 ≤ at → at < onode.base.0 + 4098 → is at ≡ was at
+  data_kept = data_stays was is next first last onodes root after s of fresh shape
+
+  pub stands_kept : Stands is (max next last) onodes
+  stands_kept = stands_still was is next first last onodes root after s of fresh shape
+
+  pub free_kept : (at : ℕ) → IsFree was onodes at → ((first ≤ at) × (at < last) → ⊥) → IsFree is onodes at
+  free_kept = free_still was is next first last onodes root after s of fresh shape

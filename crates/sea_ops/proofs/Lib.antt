@@ -2,11 +2,14 @@ pub mod Alike
 pub mod Asked
 pub mod Examples
 pub mod Frames
+pub mod Keys
 pub mod Made
 pub mod Makes
 pub mod Names
+pub mod Parts
 pub mod Putting
 pub mod Stable
+pub mod Taking
 pub mod TurnFails
 pub mod Turned
 pub mod Turns

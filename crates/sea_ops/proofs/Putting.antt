@@ -8,6 +8,7 @@ use Rattle.sea_node.specs.Entries.{Values}
 use Rattle.sea_node.proofs.Keys.{key_order_total}
 use Rattle.sea_object.specs.declared.onode.Onode.{Onode}
 use Rattle.sea_object.specs.declared.op.Op.TheVariants.{SetAttr}
+use Rattle.sea_object.specs.declared.reply.Item.TheVariants.{Unit as Nothing}
 use Rattle.sea_object.specs.declared.reply.Why.TheVariants.{AttrFull}
 use Rattle.sea_object.specs.Answer as model
 use Rattle.sea_object.specs.Objects.{ObjectValue, ObjectMap}
@@ -21,6 +22,8 @@ use Rattle.sea_tree.proofs.Walks.{one_store}
 use Rattle.sea_ops.specs.WellFormed.{IsObjectOf}
 use Rattle.sea_ops.specs.Calls.{Meets, Refuses, Fails}
 use Rattle.sea_ops.proofs.Asked.{found, meets_tree, object_fails, path_fails}
+use Rattle.sea_ops.proofs.Parts.{Attributes}
+use Rattle.sea_ops.proofs.Taking.{found_at}
 use Rattle.sea_ops.proofs.Turns.{IsTurn, object_is}
 
 below : (m n : ℕ) → nat_lt m n ≡ true → m < n
@@ -42,24 +45,28 @@ finds_later old mid new name here later finds = record {
   onode = λ store onodes m. finds.onode store onodes (record { agrees = agrees_before later m.agrees; onodes = m.onodes; fresh = λ at from under. m.fresh at from (omega (arith, under, later.next)) });
 }
 
-within_limit : (n : ℕ) → n ≤ 64 → nat_lt 64 n ≡ false
-within_limit n few = by (nat_lt 64 n) refl
+pub within_limit : (limit n : ℕ) → n ≤ limit → nat_lt limit n ≡ false
+within_limit limit n few = by (nat_lt limit n) refl
   where
-    by : (b : Bool) → nat_lt 64 n ≡ b → nat_lt 64 n ≡ false
-    by true e = absurd (omega (arith, below 64 n e, few))
+    by : (b : Bool) → nat_lt limit n ≡ b → nat_lt limit n ≡ false
+    by true e = absurd (omega (arith, below limit n e, few))
     by false e = e
 
-past_limit : (n : ℕ) → 64 < n → nat_lt 64 n ≡ true
-past_limit n many = by (nat_lt 64 n) refl
+pub past_limit : (limit n : ℕ) → limit < n → nat_lt limit n ≡ true
+past_limit limit n many = by (nat_lt limit n) refl
   where
-    by : (b : Bool) → nat_lt 64 n ≡ b → nat_lt 64 n ≡ true
+    by : (b : Bool) → nat_lt limit n ≡ b → nat_lt limit n ≡ true
     by true e = e
-    by false e = absurd (omega (arith, not_below 64 n e, many))
+    by false e = absurd (omega (arith, not_below limit n e, many))
 
-pub puts_attribute : (name key value : List ℕ) → IsTurn (SetAttr name key value) name (λ content. map.insert content key value)
-puts_attribute name key value = record {
-  allowed = λ objects o has few. ap (model.refusal_at (SetAttr name key value)) has ∙ ap (λ (b : Bool). cond b (Some AttrFull) None) (within_limit (map.len (map.insert o.attributes key value)) few);
-  answers = λ objects o has. sym (ap (model.item_at (SetAttr name key value)) has);
+-- a content with a value at a key
+abbrev pub with_pair : List ℕ → List ℕ → Values → Values
+with_pair key value content = map.insert content key value
+
+pub puts_attribute : (name key value : List ℕ) (found : Option (List ℕ)) → IsTurn (SetAttr name key value) name Attributes (found_at key found) (with_pair key value) Nothing
+puts_attribute name key value found = record {
+  allowed = λ objects o has few. ap (model.refusal_at (SetAttr name key value)) has ∙ ap (λ (b : Bool). cond b (Some AttrFull) None) (within_limit 64 (map.len (map.insert o.attributes key value)) few);
+  answers = λ objects o has told. sym (ap (model.item_at (SetAttr name key value)) has);
   effect = λ objects o has. ap (λ (z : Option ObjectValue). model.put_object (Some name) (model.object_after (SetAttr name key value) z) objects) has;
 }
 
@@ -102,7 +109,7 @@ module _ (old mid new : Seen) (first : OnlyRead old mid) (later : OnlyRead mid n
         let has = object_is (laid old store) x (map.get objects name) (found store next objects old mid new first later m name (Some x) finds) in
         let o = has.0 in
         let no_room = told store o.attributes (meets_tree store next objects old mid new first later m x.base.0 o.attributes has.2.attributes) in
-        ap (model.refusal_at (SetAttr name key value)) has.1 ∙ ap (λ (b : Bool). cond b (Some AttrFull) None) (past_limit (map.len (map.insert o.attributes key value)) (overfull (map.get o.attributes key) x.attrs (map.len o.attributes) (map.len (map.insert o.attributes key value)) has.2.attrs (sym no_room) (len-insert key_order_total o.attributes key value)));
+        ap (model.refusal_at (SetAttr name key value)) has.1 ∙ ap (λ (b : Bool). cond b (Some AttrFull) None) (past_limit 64 (map.len (map.insert o.attributes key value)) (overfull (map.get o.attributes key) x.attrs (map.len o.attributes) (map.len (map.insert o.attributes key value)) has.2.attrs (sym no_room) (len-insert key_order_total o.attributes key value)));
   }
 
   pub look_fails : (fault : TreeFault) → tree.IsPathFault x.base.0 key mid new fault → Fails old new fault

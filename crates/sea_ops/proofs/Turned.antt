@@ -18,21 +18,25 @@ use Rattle.sea_tree.specs.Changing.{Changed}
 use Rattle.sea_ops.specs.WellFormed.{IsObjectOf, AreOfOne, IsOwnRoot, IsRoot, IsWellFormed}
 use Rattle.sea_ops.specs.Calls.{IsFree}
 use Rattle.sea_ops.proofs.Alike.{HaveSame, replaced_on, replaced_back, stands_same, free_same}
-use Rattle.sea_ops.proofs.Frames.{Stands, stands_kept, other_kept, data_kept, free_kept}
+use Rattle.sea_ops.proofs.Frames.{Stands, Reshaped, reshaped, stands_still, other_stays, data_stays, free_still, stands_kept, free_kept}
 use Rattle.sea_ops.proofs.Made.{stands_of, order_of}
+use Rattle.sea_ops.proofs.Parts.{Part, Attributes, Omap, root_of, count_of, other_count, with_values}
 
 -- ---- what a change of a tree leaves of the objects
 
-module _ (was is : Store) (next first last : ℕ) (onodes : Onodes) (root : ℕ) (after : Values) (s : Stands was next onodes) (of : IsRoot onodes root) (fresh : (at : ℕ) → first ≤ at → at < last → IsFree was onodes at) (c : Changed was is root first last after) (bounded : next < 2 ^ 64) where
+module _ (was is : Store) (next first last : ℕ) (onodes : Onodes) (root : ℕ) (after : Values) (s : Stands was next onodes) (of : IsRoot onodes root) (fresh : (at : ℕ) → first ≤ at → at < last → IsFree was onodes at) (c : Reshaped was is root first last after) (bounded : next < 2 ^ 64) where
   pub bytes_stay : (q : List ℕ) (x : Onode) → map.get onodes q ≡ Some x → bytes_of was x.base.0 x.size ≡ bytes_of is x.base.0 x.size
   bytes_stay q x e =
       let r = s.ranges q x e in
       bytes_kept was is x.base.0 x.size r.2 (λ i few.
       let at = address_is x.base.0 i few (omega (arith, r.1, bounded)) in
-      ap was at ∙ sym (data_kept was is next first last onodes root after s of fresh c q x (x.base.0 + 2 + i) e (omega arith) (omega (arith, few))) ∙ ap is (sym at))
+      ap was at ∙ sym (data_stays was is next first last onodes root after s of fresh c q x (x.base.0 + 2 + i) e (omega arith) (omega (arith, few))) ∙ ap is (sym at))
+
+  bytes_then : (name : List ℕ) (x y : Onode) → map.get onodes name ≡ Some x → HaveSame x y → (o : ObjectValue) → IsObjectOf was x o → o.bytes ≡ bytes_of is y.base.0 y.size
+  bytes_then name x y e same o h = h.bytes ∙ bytes_stay name x e ∙ ap (λ (b : ℕ). bytes_of is b x.size) same.base ∙ ap (bytes_of is y.base.0) same.size
 
   pub tree_stays : (q : ℕ) → IsRoot onodes q → q ≢ root → (content : Values) → HasContent was q content → HasContent is q content
-  tree_stays = other_kept was is next first last onodes root after s of fresh c
+  tree_stays = other_stays was is next first last onodes root after s of fresh c
 
   -- an object whose trees are others
   pub object_stays : (q : List ℕ) (x : Onode) → map.get onodes q ≡ Some x → (IsOwnRoot x root → ⊥) → (o : ObjectValue) → IsObjectOf was x o → IsObjectOf is x o
@@ -44,19 +48,26 @@ module _ (was is : Store) (next first last : ℕ) (onodes : Onodes) (root : ℕ)
     keys = h.keys;
   }
 
-  -- an object whose attributes are the tree that changed
-  pub attributes_change : (name : List ℕ) (x y : Onode) → map.get onodes name ≡ Some x → root ≡ x.base.0 → HaveSame x y → y.keys ≡ x.keys → (o : ObjectValue) → IsObjectOf was x o → y.attrs ≡ map.len after → IsObjectOf is y (record o { attributes = after })
-  attributes_change name x y e is_root same keys o h counted = record {
-    bytes = h.bytes ∙ bytes_stay name x e ∙ ap (λ (b : ℕ). bytes_of is b x.size) same.base ∙ ap (bytes_of is y.base.0) same.size;
+  -- an object one of whose trees is the one that changed
+  pub part_changes : (part : Part) (name : List ℕ) (x y : Onode) → map.get onodes name ≡ Some x → root ≡ root_of part x → HaveSame x y → other_count part y ≡ other_count part x → (o : ObjectValue) → IsObjectOf was x o → count_of part y ≡ map.len after → IsObjectOf is y (with_values part after o)
+  part_changes Attributes name x y e is_root same keys o h counted = record {
+    bytes = bytes_then name x y e same o h;
     attributes = subst (λ (r : ℕ). HasContent is r after) (is_root ∙ same.base) c.content;
     omap = subst (λ (r : ℕ). HasContent is (r + 1) o.omap) same.base (tree_stays (x.base.0 + 1) (inr (name, x, e, inr refl)) (λ own. omega (arith, own, is_root)) o.omap h.omap);
     attrs = counted;
     keys = keys ∙ h.keys;
   }
+  part_changes Omap name x y e is_root same attrs o h counted = record {
+    bytes = bytes_then name x y e same o h;
+    attributes = subst (λ (r : ℕ). HasContent is r o.attributes) same.base (tree_stays x.base.0 (inr (name, x, e, inl refl)) (λ own. omega (arith, own, is_root)) o.attributes h.attributes);
+    omap = subst (λ (r : ℕ). HasContent is r after) (is_root ∙ ap (λ (n : ℕ). n + 1) same.base) c.content;
+    attrs = attrs ∙ h.attrs;
+    keys = counted;
+  }
 
 -- ---- the tree and then the onode
 
-module _ (was mid : Store) (next first second last : ℕ) (objects : ObjectMap) (f : IsWellFormed was next objects) (name : List ℕ) (x : Onode) (here : map.get f.onodes name ≡ Some x) (root : ℕ) (own : IsOwnRoot x root) (given : (at : ℕ) → first ≤ at → at < last → IsFree was f.onodes at) (early : first ≤ second) (rises : second ≤ last) (content : Values) (turn : Changed was mid root first second content) where
+module _ (was mid : Store) (next first second last : ℕ) (objects : ObjectMap) (f : IsWellFormed was next objects) (name : List ℕ) (x : Onode) (here : map.get f.onodes name ≡ Some x) (root : ℕ) (own : IsOwnRoot x root) (given : (at : ℕ) → first ≤ at → at < last → IsFree was f.onodes at) (early : first ≤ second) (rises : second ≤ last) (content : Values) (turn : Reshaped was mid root first second content) where
   stands : Stands was next f.onodes
   stands = stands_of was next objects f
 
@@ -67,11 +78,11 @@ module _ (was mid : Store) (next first second last : ℕ) (objects : ObjectMap) 
   fresh at from below = given at from (omega (arith, below, rises))
 
   between : Stands mid (max next second) f.onodes
-  between = stands_kept was mid next first second f.onodes root content stands of fresh turn
+  between = stands_still was mid next first second f.onodes root content stands of fresh turn
 
   -- what comes behind is free still
   pub fresh_between : (at : ℕ) → second ≤ at → at < last → IsFree mid f.onodes at
-  fresh_between at from below = free_kept was mid next first second f.onodes root content stands of fresh turn at (given at (omega (arith, early, from)) below) (λ within. omega (arith, within.1, from))
+  fresh_between at from below = free_still was mid next first second f.onodes root content stands of fresh turn at (given at (omega (arith, early, from)) below) (λ within. omega (arith, within.1, from))
 
   -- the onode tree holds what it held
   not_one : 1 ≢ root
@@ -84,7 +95,7 @@ module _ (was mid : Store) (next first second last : ℕ) (objects : ObjectMap) 
   pub onodes_between : HasOnodes mid f.onodes
   onodes_between = record {
     content = f.order.tree.content;
-    tree = other_kept was mid next first second f.onodes root content stands of fresh turn 1 (inl refl) not_one f.order.tree.content f.order.tree.tree;
+    tree = other_stays was mid next first second f.onodes root content stands of fresh turn 1 (inl refl) not_one f.order.tree.content f.order.tree.tree;
     spelled = f.order.tree.spelled;
   }
 
@@ -115,7 +126,7 @@ module _ (was mid : Store) (next first second last : ℕ) (objects : ObjectMap) 
 
     stays : (q : List ℕ) (z : Onode) → map.get all q ≡ Some z → (o : ObjectValue) → IsObjectOf mid z o → IsObjectOf is z o
     stays q z e o h =
-        object_stays mid is (max next second) second last all 1 after saved (inl refl) fresh_saved save bounded q z e (low (saved.ranges q z e).0) o h
+        object_stays mid is (max next second) second last all 1 after saved (inl refl) fresh_saved (reshaped mid is 1 second last after save) bounded q z e (low (saved.ranges q z e).0) o h
       where
         low : 2 ≤ z.base.0 → IsOwnRoot z 1 → ⊥
         low least (inl base) = omega (arith, base, least)
@@ -164,7 +175,7 @@ module _ (was mid : Store) (next first second last : ℕ) (objects : ObjectMap) 
     turned_free at free apart =
         free_kept mid is (max next second) second last all 1 after saved (inl refl) fresh_saved save at
         (free_same mid f.onodes all (replaced_back f.onodes name x y here same) at
-        (free_kept was mid next first second f.onodes root content stands of fresh turn at free (λ within. apart (within.0, omega (arith, within.1, rises)))))
+        (free_still was mid next first second f.onodes root content stands of fresh turn at free (λ within. apart (within.0, omega (arith, within.1, rises)))))
         (λ within. apart (omega (arith, within.0, early), within.1))
 
     pub turned : (g : IsWellFormed is (max next last) (map.insert objects name p)) × ((at : ℕ) → IsFree was f.onodes at → ((first ≤ at) × (at < last) → ⊥) → IsFree is g.onodes at)

@@ -82,7 +82,7 @@ fn value_item(value: Option<Data>) -> Item
 }
 
 // The root of the tree of an object's keys.
-fn omap_root(onode: &Onode) -> Laddr
+pub(crate) fn omap_root(onode: &Onode) -> Laddr
     ensures { result.0 ≡ (onode.now.base.0 + 1) % 2 ^ 64 }
 {
     Laddr(onode.base.0.wrapping_add(1))

@@ -1,12 +1,15 @@
-use Rattle.std.proofs.Common.{◌≡◌, ℕ, ◌-◌, ◌≤◌, cond, sym, ap, subst, ◌∙◌, arith}
+use Rattle.std.proofs.Common.{◌≡◌, ℕ, ◌-◌, ◌≤◌, cond, refl, sym, ap, subst, ◌∙◌, arith}
 use Rattle.std.proofs.lemmas.Result.{err_from_is_err_and}
 use Rattle.std.specs.FinMap as map
 use Rattle.sea_base.proofs.Calling.{call_then}
 use Rattle.sea_object.specs.declared.op.Op.TheVariants.{RmAttr}
+use Rattle.sea_object.specs.declared.reply.Item.TheVariants.{Unit as Nothing}
 use Rattle.sea_object.specs.Answer as model
 use Rattle.sea_ops.proofs.Asked.{find_fails}
-use Rattle.sea_ops.proofs.Turns.{turns_done, takes_attribute, fewer_counted, no_object, removed_notes, attributes_few}
-use Rattle.sea_ops.proofs.TurnFails.{turn_fails, save_fails}
+use Rattle.sea_ops.proofs.Parts.{Attributes}
+use Rattle.sea_ops.proofs.Taking.{found_at, taken, takes_attribute, fewer_counted, removed_notes}
+use Rattle.sea_ops.proofs.Turns.{turns_once, turns_done, no_object, object_since}
+use Rattle.sea_ops.proofs.TurnFails.{failed_once, turn_fails, save_fails}
 use Rattle.sea_ops.proofs.attributes.remove_attr.Goals as goal
 
 pub returns-in_err-onode-clause-failure : goal.returns-in_err-onode-clause-failure
@@ -23,7 +26,9 @@ pub returns-in_err-old-clause-failure : goal.returns-in_err-old-clause-failure
 returns-in_err-old-clause-failure g c =
     let p = err_from_is_err_and c.from_residual-in_err-old.result c.from_residual-in_err-old.ensures.1 in
     let f = c.in_err-old.ensures in
-    rw (p.1, p.2) (turn_fails (g.S.Space.seen c.args.space.now) (g.S.Space.seen c.find.new.space) (g.S.Space.seen c.del.new.space) c.in_ok-onode.ensures.reads c.args.name.now c.args.key.now c.in-Some.onode (rw c.in-Some.is at c.in_ok-onode.ensures.found) c.in_err-old.field-0.0 f.next.0 f.failure)
+    let a = g.S.Space.seen c.find.new.space in
+    let b = g.S.Space.seen c.del.new.space in
+    rw (p.1, p.2) (turn_fails Attributes (g.S.Space.seen c.args.space.now) a b c.in_ok-onode.ensures.reads c.args.name.now c.in-Some.onode (rw c.in-Some.is at c.in_ok-onode.ensures.found) c.in_err-old.field-0.0 f.next.0 (failed_once Attributes c.in-Some.onode c.in-Some.onode.base.0 c.args.key.now a b c.in_err-old.field-0.0 (λ small. refl) f.failure))
 
 pub returns-in_err-old-clause-call : goal.returns-in_err-old-clause-call
 returns-in_err-old-clause-call g c =
@@ -39,7 +44,9 @@ returns-in_err-save-clause-failure g c =
     let p = err_from_is_err_and c.from_residual-in_err-save.result c.from_residual-in_err-save.ensures.1 in
     let del = c.in_ok-old.ensures in
     let f = c.in_err-save.ensures in
-    rw (p.1, p.2) (save_fails old a b c.in_ok-onode.ensures.reads c.args.name.now c.args.key.now c.in-Some.onode (rw c.in-Some.is at c.in_ok-onode.ensures.found) new c.in_ok-old.old (λ content. map.remove content c.args.key.now) del.changed (removed_notes a b c.in-Some.onode.base.0 c.args.key.now c.in_ok-old.old del.form) del.next.0 del.next.1 f.next.0 c.in_err-save.field-0.0 f.failure)
+    let told = found_at c.args.key.now c.in_ok-old.old in
+    let turn = taken c.args.key.now in
+    rw (p.1, p.2) (save_fails Attributes old a b c.in_ok-onode.ensures.reads c.args.name.now c.in-Some.onode (rw c.in-Some.is at c.in_ok-onode.ensures.found) new told turn (turns_once Attributes c.in-Some.onode told turn a b c.in-Some.onode.base.0 (λ small. refl) del.changed del.footprint.own) (removed_notes a b c.in-Some.onode.base.0 c.args.key.now c.in_ok-old.old del.form) del.next.0 del.next.1 f.next.0 c.in_err-save.field-0.0 f.failure)
 
 pub returns-in_err-save-clause-call : goal.returns-in_err-save-clause-call
 returns-in_err-save-clause-call g c =
@@ -60,12 +67,15 @@ returns-clause-ends g c =
     let y_is = c.with_fewer-fewer.ensures in
     let finds = rw c.in-Some.is at c.in_ok-onode.ensures.found in
     let reads = c.in_ok-onode.ensures.reads in
-    turns_done (RmAttr name key) name key (λ content. map.remove content key) (takes_attribute name key) a b new x c.with_fewer-fewer.result
-    (record { base = sym (ap (λ o. o.base.0) y_is); size = sym (ap (λ o. o.size) y_is) }) (ap (λ o. o.keys) y_is) del.next.0 did.next.0 (omega (arith, del.next.1, c.requires.room, reads.next)) c.in_ok-old.old del.changed del.footprint.own did.changed did.footprint.own did.notes
-    old reads finds (removed_notes a b x.base.0 key c.in_ok-old.old del.form)
+    let told = found_at key c.in_ok-old.old in
+    let turn = taken key in
+    let noted = removed_notes a b x.base.0 key c.in_ok-old.old del.form in
+    turns_done (RmAttr name key) name Attributes told turn Nothing (takes_attribute name key c.in_ok-old.old) a b new x c.with_fewer-fewer.result
+    (record { base = sym (ap (λ o. o.base.0) y_is); size = sym (ap (λ o. o.size) y_is) }) (ap (λ o. o.keys) y_is) del.next.0 did.next.0 (omega (arith, del.next.1, c.requires.room, reads.next)) (turns_once Attributes x told turn a b x.base.0 (λ small. refl) del.changed del.footprint.own) did.changed did.footprint.own did.notes
+    old reads finds noted
     (λ store next objects m o is found.
-    let order = attributes_few old a new reads name x finds store next objects m (λ at f e. did.notes at f (removed_notes a b x.base.0 key c.in_ok-old.old del.form at f e)) in
-    subst (λ (n : ℕ). (n ≡ map.len (map.remove o.attributes key)) × (n ≤ 64)) (sym (ap (λ o. o.attrs) y_is ∙ ap (λ t. cond t (x.attrs - 1) x.attrs) c.is_some.ensures)) (fewer_counted x key c.in_ok-old.old o.attributes is.attrs order found))
+    let here = object_since old a new reads name x finds (λ at f e. did.notes at f (noted at f e)) store next objects m in
+    subst (λ (n : ℕ). (n ≡ map.len (map.remove o.attributes key)) × (n ≤ 64)) (sym (ap (λ o. o.attrs) y_is ∙ ap (λ t. cond t (x.attrs - 1) x.attrs) c.is_some.ensures)) (fewer_counted x key c.in_ok-old.old o.attributes is.attrs here.order.attrs found))
 
 pub returns-clause-call : goal.returns-clause-call
 returns-clause-call g c = call_then g.S.Space g.met.S.Space.frame (call_then g.S.Space g.met.S.Space.frame c.in_ok-onode.ensures.call c.in_ok-old.ensures.call) c.in_ok-save.ensures.call
