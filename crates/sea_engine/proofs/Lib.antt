@@ -1,5 +1,7 @@
 pub mod Backs
 pub mod Examples
 pub mod Held
+pub mod Making
+pub mod Openings
 pub mod Phases
 pub mod Totals

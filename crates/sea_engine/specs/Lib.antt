@@ -1,2 +1,5 @@
+pub mod OpeningLaws
+pub mod Opens
+pub mod Replay
 pub mod TurnLaws
 pub mod Turns

@@ -1,5 +1,8 @@
-//! What holds of each run of turns.
+//! What holds of each run of turns, and of all images.
+ghost use Rattle.sea_engine.specs.OpeningLaws.{NotShut, OneMap};
 ghost use Rattle.sea_engine.specs.TurnLaws.{Acknowledges, Appends, SendsAllBack, SendsOneBack, ServesPlan};
+
+use sea_transactions::Transactions;
 
 /// A run of turns keeps a history that serves the plan, each client's requests once and in order.
 /// No more is acknowledged than is entered, the history is only added to, and clients are sent back
@@ -10,4 +13,10 @@ pub fn turn_laws()
     ensures goes_on { Appends }
     ensures sent_back { SendsOneBack }
     ensures all_sent_back { SendsAllBack }
+{}
+
+/// An image opens to one map of objects alone, and then is not shut.
+pub fn opening_laws<T: Transactions>()
+    ensures one { OneMap T.lays }
+    ensures not_shut { NotShut T.lays }
 {}

@@ -2,5 +2,7 @@
 #![tactic(auto)]
 
 mod law;
+mod replay;
 
-pub use law::turn_laws;
+pub use law::{opening_laws, turn_laws};
+pub use replay::{ReplayFault, are_rising, replayed};
