@@ -1,5 +1,6 @@
 pub mod Alike
 pub mod Asked
+pub mod Emptied
 pub mod Examples
 pub mod Frames
 pub mod Keys

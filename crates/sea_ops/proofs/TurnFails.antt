@@ -62,7 +62,7 @@ fills was is root first last before after has c count more few (filled, short, a
       ],
     )
 
-more_room : (store : Store) (few many : ℕ) → few ≤ many → FillsFewer store few → FillsFewer store many
+pub more_room : (store : Store) (few many : ℕ) → few ≤ many → FillsFewer store few → FillsFewer store many
 more_room store few many le (filled, short, all) = (filled, omega (arith, short, le), all)
 
 -- A tree's change that ended with a fault: where it is none of the space, what was noted stays, and a well-formed tree on few addresses rules it out.

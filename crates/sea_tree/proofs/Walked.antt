@@ -7,7 +7,7 @@ use Rattle.std.proofs.Math.Seq.{take-suc}
 use Rattle.std.proofs.lemmas.List.{map-append}
 use Rattle.std.proofs.lemmas.Bool.{cases_eq, eqb-true}
 use Rattle.std.proofs.lemmas.List.Elements.{Contains-append_left, Contains-append_right, Contains-append_cases}
-use Rattle.sea_base.specs.Space.{Store, Seen, IsKnown, IsSound, Agrees, OnlyRead, Writes, laid}
+use Rattle.sea_base.specs.Space.{Store, Seen, Found, IsKnown, IsSound, Agrees, OnlyRead, Writes, laid}
 use Rattle.sea_base.specs.declared.place.Laddr.{Laddr}
 use Rattle.sea_base.proofs.Spaces.{agrees_before, laid-only_read, laid_here, laid_others}
 use Rattle.sea_node.specs.Entries.{Entry, Values, key_order}
@@ -92,9 +92,10 @@ pub record Dropped (gone : List ℕ) (old new : Seen) : Type 0 where
   pub here : (store : Store) (q : ℕ) → Contains gone q → laid new store q ≡ None
   pub others : (store : Store) (q : ℕ) → (Contains gone q → ⊥) → laid new store q ≡ laid old store q
   pub changed : (q : ℕ) → new.changed q ≡ true → (old.changed q ≡ true) ⊎ Contains gone q
+  pub reads : (q : ℕ) (found : Found) → old.reads q ≡ Some found → new.reads q ≡ Some found
 
 pub dropped_none : (old new : Seen) → OnlyRead old new → Dropped [] old new
-dropped_none old new reads = record { here = λ store q c. absurd (Contains-nil q c); others = λ store q not. laid-only_read reads store q; changed = λ q e. inl (sym (reads.changed q) ∙ e) }
+dropped_none old new reads = record { here = λ store q c. absurd (Contains-nil q c); others = λ store q not. laid-only_read reads store q; changed = λ q e. inl (sym (reads.changed q) ∙ e); reads = reads.noted }
 
 pub dropped_more : (gone : List ℕ) (at : ℕ) (old mid new : Seen) → Dropped gone old mid → Writes at None mid new → Dropped (gone ++ at ∷ []) old new
 dropped_more gone at old mid new before w = record {
@@ -107,6 +108,7 @@ dropped_more gone at old mid new before w = record {
     | inl same ↦ inr (last q (eqb-true q at same))
     | inr earlier ↦ elim (before.changed q earlier) [ inl was ↦ inl was | inr c ↦ inr (Contains-append_left gone (at ∷ []) q c) ]
   ];
+  reads = λ q found e. w.reads q ∙ before.reads q found e;
 }
   where
     earlier : (q : ℕ) → q ≢ at → Contains (gone ++ at ∷ []) q → Contains gone q
@@ -133,7 +135,11 @@ module _ (store : Store) (root : ℕ) (old new : Seen) (content : Values) (pairs
       by None none = untouched root (no_node (laid old store) root root none) ∙ none
       by (Some bytes) some = nothing root (IsNodeOf-root (laid old store) root w.tree (λ none. let e = sym some ∙ none in cc))
 
-  pub becomes_empty : Becomes store root old new map.empty × ((at : ℕ) → IsNodeOf (laid old store) root at → laid new store at ≡ None)
+  nothing_left : (at : ℕ) → (at ≡ root) ⊎ IsNodeOf (laid old store) root at → laid new store at ≡ None
+  nothing_left at (inl same) = ap (laid new store) same ∙ root_empty
+  nothing_left at (inr node) = nothing at node
+
+  pub becomes_empty : Becomes store root old new map.empty × ((at : ℕ) → (at ≡ root) ⊎ IsNodeOf (laid old store) root at → laid new store at ≡ None)
   becomes_empty = (
     record {
       content = HasContent-empty (laid new store) root root_empty;
@@ -148,7 +154,7 @@ module _ (store : Store) (root : ℕ) (old new : Seen) (content : Values) (pairs
       levels = λ level tree. few_levels (laid new store) level root root_bounds tree;
       others = λ other kept not_root has apart outside. HasContent-beside (laid old store) (laid new store) root old.next new.next w.tree m.fresh (λ at else not out. untouched at not) other kept has apart not_root outside;
     },
-    nothing,
+    nothing_left,
   )
 
 -- the addresses of the first items, and one more

@@ -1,8 +1,8 @@
 //! Reading a whole tree, and dropping it.
-ghost use Rattle.std.specs.Prelude.{◌≡◌, ◌∷◌, ℕ, ◌≤◌, List, None, IfOk, IfErr, OnOk, IsTrue, length};
+ghost use Rattle.std.specs.Prelude.{◌≡◌, ◌⊎◌, ◌∷◌, ℕ, ◌≤◌, List, Some, None, IfOk, IfErr, OnOk, IsTrue, length};
 ghost use Rattle.std.specs.Option.{option_copied};
 ghost use Rattle.std.specs.FinMap as map;
-ghost use Rattle.sea_base.specs.Space.{Store, OnlyRead, laid, Agrees};
+ghost use Rattle.sea_base.specs.Space.{Store, Found, OnlyRead, laid, Agrees};
 ghost use Rattle.sea_node.specs.Entries.{Values};
 ghost use Rattle.sea_node.specs.Node.{IsNode};
 ghost use Rattle.sea_tree.specs.Tree.{IsTree, IsNodeOf};
@@ -118,8 +118,10 @@ pub fn drop_all<S: Space>(alloc: Global, space: &mut S, root: Laddr) -> Result<(
     ensures gone { OnOk result ((store : Store) (content : Values)
         → Meets store root.0 (S.seen space.old) (S.seen space.new) content
         → Becomes store root.0 (S.seen space.old) (S.seen space.new) map.empty
-        × ((at : ℕ) → IsNodeOf (laid (S.seen space.old) store) root.0 at
+        × ((at : ℕ) → (at ≡ root.0) ⊎ IsNodeOf (laid (S.seen space.old) store) root.0 at
         → laid (S.seen space.new) store at ≡ None)) }
+    ensures notes { OnOk result ((at : ℕ) (found : Found)
+        → (S.seen space.old).reads at ≡ Some found → (S.seen space.new).reads at ≡ Some found) }
     ensures footprint { OnOk result (DropFootprint root.0 (S.seen space.old) (S.seen space.new)) }
     ensures failure { IfErr result (DropFailure root.0 (S.seen space.old) (S.seen space.new)) }
     ensures next { (S.seen space.new).next ≡ (S.seen space.old).next }

@@ -46,6 +46,9 @@ returns-clause-gone g c = λ store content meets.
     let dropped = subst (λ (ns : List Laddr). Dropped (map (λ at. at.0) ns) (g.S.Space.seen c.args.space.now) (g.S.Space.seen c.loop-at.space)) all end.dropped in
     becomes_empty store c.args.root.0 (g.S.Space.seen c.args.space.now) (g.S.Space.seen c.loop-at.space) content walked.0 (map (λ at. at.0) c.items-at-items.result.now) dropped walked.1 meets end.next
 
+pub returns-clause-notes : goal.returns-clause-notes
+returns-clause-notes g c = c.loop-at.invariant.dropped.reads
+
 pub returns-in_err-drop_at-clause-call : goal.returns-in_err-drop_at-clause-call
 returns-in_err-drop_at-clause-call g c =
     let p = err_from_is_err_and c.from_residual-in_err-drop_at.result c.from_residual-in_err-drop_at.ensures.1 in
