@@ -84,8 +84,8 @@ fn a_file_cut_short_while_open_reads_zeros(rt: HostRuntime) -> Result<(), Fail> 
     file.set_len(6000)?;
     assert!(rt; is_filled(&block_of(&rt, &mut device, 0), 7));
     let block = block_of(&rt, &mut device, 1);
-    assert!(rt; block[..1904].iter().all(|byte| *byte == 7));
-    assert!(rt; block[1904..].iter().all(|byte| *byte == 0));
+    assert!(rt; block.iter().take(1904).all(|byte| *byte == 7));
+    assert!(rt; block.iter().skip(1904).all(|byte| *byte == 0));
     assert!(rt; is_filled(&block_of(&rt, &mut device, 2), 0));
     assert_eq!(rt; device.sync(), Ok(()));
     fs::remove_file(&rt, &path)?;
