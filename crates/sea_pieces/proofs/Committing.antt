@@ -31,6 +31,14 @@ closed_notes None at note closed found = none-some note found
 closed_notes (Some None) at note closed found = none-some note found
 closed_notes (Some (Some notes)) at note closed found = absurd cc
 
+-- where no transaction is open nothing is noted
+pub none_noted : (m : VersionMap) (addresses : AddressMap) (last : Commit) (board : Board) → ((client : ℕ) → is_open_in (place_of board client) ≡ false) → AreNoted m addresses last board
+none_noted m addresses last board closed = record {
+  given = λ client at note found. absurd (closed_notes (place_of board client) at note (closed client) found);
+  current = λ client at name is note found. absurd (closed_notes (place_of board client) at note (closed client) found);
+  seen = λ client at note found. absurd (closed_notes (place_of board client) at note (closed client) found);
+}
+
 module _ (client : ℕ) (old new : Board) (ends : Ends client old new) where
   pub was_noted : (c at : ℕ) (note : Note) → noted new c at ≡ Some note → noted old c at ≡ Some note
   was_noted c at note found = elim (same_or c client) [

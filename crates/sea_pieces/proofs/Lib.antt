@@ -1,12 +1,16 @@
 pub mod Apart
 pub mod Committing
 pub mod Fields
+pub mod LatePieces
 pub mod Laying
 pub mod Lengths
 pub mod Marking
+pub mod Marked
+pub mod Meeting
 pub mod Moving
 pub mod Noting
 pub mod ReadPieces
+pub mod Reading
 pub mod SamePieces
 pub mod Seen
 pub mod Shared

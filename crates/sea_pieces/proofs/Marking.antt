@@ -74,33 +74,3 @@ module _ (commit : Commit) (piece : Piece) (m : VersionMap) (addresses : Address
           let k = marked commit change stays old new marks client at note found in
           notes.seen client at k.was k.found seen (sym k.seen ∙ is);
     }
-
-unpicked : {A : Type 0} (b : Bool) (x y : A) → b ≡ false → cond b x y ≡ y
-unpicked b x y e = ap (λ b. cond b x y) e
-
-module _ (store : PieceStore) (piece : Piece) (addresses : AddressMap) (apart : AreApart addresses) (change : Change) (stays : change.gone ≡ false) (is_here : get addresses piece.name ≡ Some change.at.0)
-    (keeps : (name : List ℕ) (at : ℕ) → get store.addresses name ≡ Some at → get addresses name ≡ Some at)
-    (new : Board) (marks : Marks 0 store.last (change ∷ []) store.board new) (before : AreBefore store.last store.board) where
-  abbrev left : ℕ → Note → Note
-  left at note = record { seen = note.seen; current = cond (nat_eq change.at.0 at) (cond change.gone None (Some store.last)) note.current }
-
-  forward : (client at : ℕ) (note : Note) → noted store.board client at ≡ Some note → noted new client at ≡ Some (left at note)
-  forward zero at note found = absurd (none-some note found)
-  forward (suc c) at note found = (marks.others (suc c) (λ e. absurd (omega (arith, e)))).noted at ∙ ap (moved_on store.last (change ∷ []) at) found
-
-  -- where no note of now has moved, the change was of none
-  apart_from : (client at : ℕ) (note : Note) → HasNoConflict new client → noted store.board client at ≡ Some note → (nat_eq change.at.0 at ≡ false) × (note.current ≡ note.seen)
-  apart_from client at note quiet found = go (nat_eq change.at.0 at) refl (quiet at (left at note) (forward client at note found))
-    where
-      go : (b : Bool) → nat_eq change.at.0 at ≡ b → cond b (cond change.gone None (Some store.last)) note.current ≡ note.seen → (nat_eq change.at.0 at ≡ false) × (note.current ≡ note.seen)
-      go true e same = absurd (omega (arith, before client at note found store.last (sym same ∙ ap (λ (g : Bool). cond g None (Some store.last)) stays)))
-      go false e same = (e, same)
-
-  pub marked_stable : (client : ℕ) (ops : List Op) (done : Done) → IsStable store client ops done → HasNoConflict new client → (objects : ObjectMap) →
-      ((name : List ℕ) (at : ℕ) → get addresses name ≡ Some at → ForSome (noted new client at) (λ _. get objects name ≡ get (objects_in (with_piece store.last piece store.committed)) name)) → Did ops done objects
-  marked_stable client ops done stable quiet objects shares =
-      stable (λ at note found. (apart_from client at note quiet found).1) objects (λ name at is note found.
-      shares name at (keeps name at is) (left at note) (forward client at note found)
-      ∙ ap (λ o. get o name) (objects_with_piece store.last piece store.committed)
-      ∙ get-after_piece piece (objects_in store.committed) name
-      ∙ unpicked _ _ _ (sym (same_test store.last piece store.committed addresses apart change.at.0 is_here name at (keeps name at is)) ∙ (apart_from client at note quiet found).0))

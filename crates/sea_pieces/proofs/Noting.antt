@@ -1,8 +1,9 @@
 -- A read that is noted at the address of its name.
-use Rattle.std.proofs.Common.{◌≡◌, ◌≢◌, ℕ, zero, suc, ◌+◌, ◌<◌, ◌≤◌, Bool, true, false, cond, List, Option, Some, None, Result, Ok, Err, OnOk, OnErr, ◌⊎◌, inl, inr, refl, sym, ap, ◌∙◌, arith}
+use Rattle.std.proofs.Common.{◌≡◌, ◌≢◌, ℕ, zero, suc, ◌+◌, ◌<◌, ◌≤◌, Bool, true, false, cond, List, Option, Some, None, Result, Ok, Err, OnOk, OnErr, ◌⊎◌, inl, inr, refl, sym, ap, subst, ◌∙◌, arith}
 use Rattle.std.specs.Ordering.{nat_cmp, eq_by_cmp}
 use Rattle.std.specs.Cmp.Lexicographic.{slice_cmp, nat_list_cmp_total}
-use Rattle.std.specs.Prelude.{is_some, unwrap_or}
+use Rattle.std.specs.Prelude.{is_some, unwrap_or, IfOk}
+use Rattle.sea_base.specs.declared.place.Laddr.{Laddr}
 use Rattle.std.specs.FinMap.{get, insert, len, get-insert, len-insert}
 use Rattle.std.proofs.lemmas.Map.Lookups.{exact_bytes}
 use Rattle.std.proofs.lemmas.Map.Views.{tells_apart}
@@ -145,3 +146,25 @@ read_noted {committed = committed} {old = old} {new = new} (Ok x) client here na
     right notes apart up_to name here is (note_cases client here (version_of committed name) old new read)
 read_noted {old = old} {new = new} (Err e) client here name read nothing notes apart up_to is =
     same_notes notes (nothing_noted client old new nothing)
+
+-- one first note at most
+pub noted_most : {T E : Type 0} (r : Result T E) (client here : ℕ) (seen : Option Commit) (old new : Board) → OnOk r (NotesRead client here seen old new) → OnErr r (NotesNothing client old new) →
+    (at : ℕ) → (noted new client at ≡ noted old client at) ⊎ ((noted old client at ≡ None) × (at ≡ here) × (noted new client at ≡ Some (record { seen = seen; current = seen })))
+noted_most (Err e) client here seen old new read nothing at = inl (nothing.same at)
+noted_most (Ok x) client here seen old new read nothing at = elim (same_or at here) [
+  | inr away ↦ inl (read.elsewhere at away)
+  | inl at_here ↦ go at_here (noted old client here) refl
+]
+  where
+    go : at ≡ here → (o : Option Note) → noted old client here ≡ o → (noted new client at ≡ noted old client at) ⊎ ((noted old client at ≡ None) × (at ≡ here) × (noted new client at ≡ Some (record { seen = seen; current = seen })))
+    go at_here None is = inr (ap (noted old client) at_here ∙ is, at_here, ap (noted new client) at_here ∙ read.here ∙ ap (λ o. Some (first_note o seen)) is)
+    go at_here (Some note) is = inl (ap (noted new client) at_here ∙ read.here ∙ ap (λ o. Some (first_note o seen)) is ∙ sym (ap (noted old client) at_here ∙ is))
+
+-- a name is met, or there was no memory for it
+module _ {E : Type 0} (r : Result Laddr E) (old new : AddressMap) (name : List ℕ) (address : IfOk r (λ at. at.0 ≡ address_of old name)) (met : IfOk r (λ at. new ≡ insert old name at.0)) (same : OnErr r (new ≡ old)) where
+  pub meets_noted : (m : VersionMap) (last : Commit) (board : Board) → AreNoted m old last board → AreNoted m new last board
+  meets_noted m last board notes = go r address met same
+    where
+      go : (r : Result Laddr E) → IfOk r (λ at. at.0 ≡ address_of old name) → IfOk r (λ at. new ≡ insert old name at.0) → OnErr r (new ≡ old) → AreNoted m new last board
+      go (Ok at) address met same = subst (λ a. AreNoted m a last board) (sym (met ∙ ap (insert old name) address)) (met_noted old name m last board notes)
+      go (Err e) address met same = subst (λ a. AreNoted m a last board) (sym same) notes

@@ -16,6 +16,7 @@ use Rattle.sea_object.specs.Objects.{ObjectMap, ObjectValue, empty_object}
 use Rattle.sea_object.specs.Op.{IsWithinLimits}
 use Rattle.sea_pieces.specs.declared.piece.Piece.{Piece}
 use Rattle.sea_pieces.specs.Laying.{IsServed, SharesRead, after_piece, after_pieces, laid, object_under, op_pieces, pieces_of, read_name}
+use Rattle.sea_pieces.specs.Spelling.{IsPiece}
 use Rattle.sea_pieces.specs.Transaction.{Did, Done}
 use Rattle.sea_pieces.proofs.Laying.{effects_laid}
 use Rattle.std.proofs.lemmas.List.Concat.{flat_map-append}
@@ -109,8 +110,8 @@ all_more P (first ∷ ops) op all p = (all.0, all_more P ops op all.1 p)
 
 -- one operation more
 pub did_more : (ops : List Op) (op : Op) (old new : Done) (objects committed : ObjectMap) → Did ops old objects → IsServed op → IsWithinLimits op → SharesRead (read_name op) objects committed
-    → new.items ≡ old.items ++ item op (after_pieces old.pieces committed) ∷ [] → new.pieces ≡ old.pieces ++ op_pieces op → Did (ops ++ op ∷ []) new objects
-did_more ops op old new objects committed did served within shares more pieces =
+    → new.items ≡ old.items ++ item op (after_pieces old.pieces committed) ∷ [] → new.pieces ≡ old.pieces ++ op_pieces op → AllByRecursion IsPiece new.pieces → Did (ops ++ op ∷ []) new objects
+did_more ops op old new objects committed did served within shares more pieces fit =
     record {
       served = all_more IsServed ops op did.served served;
       within = all_more IsWithinLimits ops op did.within within;
@@ -124,6 +125,7 @@ did_more ops op old new objects committed did served within shares more pieces =
           ∙ ap (λ (ps : List Piece). ps ++ op_pieces op) did.changed
           ∙ ap (λ (ps : List Piece). pieces_of ops ++ ps) (sym (append-nil (op_pieces op)))
           ∙ sym (flat_map-append op_pieces ops (op ∷ []));
+      fit = fit;
     }
 
 -- what the pieces of a transaction make of the objects

@@ -1,6 +1,7 @@
 pub mod Addresses
 pub mod Committed
 pub mod Laying
+pub mod Met
 pub mod Noted
 pub mod Reads
 pub mod Spelling

@@ -1,10 +1,11 @@
 -- What a board notes of the objects that transactions read.
-use Rattle.std.specs.Prelude.{◌≡◌, ℕ, ◌+◌, ◌<◌, ◌≤◌, List, Option, Some}
+use Rattle.std.specs.Prelude.{◌≡◌, ◌≢◌, ◌⊎◌, ℕ, ◌+◌, ◌<◌, ◌≤◌, List, length, Option, Some, None}
 use Rattle.std.specs.Option.{ForSome}
 use Rattle.std.specs.FinMap as map
 use Rattle.sea_base.specs.declared.place.Commit.{Commit}
-use Rattle.sea_sets.specs.Board.{noted}
+use Rattle.sea_sets.specs.Board.{is_open_in, noted, place_of}
 use Rattle.sea_sets.specs.declared.board.Board.{Board}
+use Rattle.sea_sets.specs.declared.notes.Note.{Note}
 use Rattle.sea_pieces.specs.Addresses.{AddressMap}
 use Rattle.sea_pieces.specs.Committed.{VersionMap, version_of}
 
@@ -29,3 +30,17 @@ pub record AreNoted (committed : VersionMap) (addresses : AddressMap) (last : Co
 abbrev pub AreBefore : Commit → Board → Type 0
 AreBefore commit board = (client at : ℕ) → ForSome (noted board client at)
     (λ note. ForSome note.seen (λ seen. seen.0 < commit.0))
+
+-- A note as a commit leaves it: what was found stays, and the version there now is the same or the
+-- commit's.
+pub record IsMarked (commit : Commit) (old new : Note) : Type 0 where
+  pub seen : new.seen ≡ old.seen
+  pub current : (new.current ≡ old.current) ⊎ (new.current ≡ Some commit)
+
+-- a commit left the notes of all but this client so, and the same transactions of theirs are open
+pub record AreMarked (client : ℕ) (commit : Commit) (old new : Board) : Type 0 where
+  pub is_open : (c : ℕ) → c ≢ client → is_open_in (place_of new c) ≡ is_open_in (place_of old c)
+  pub left : (c at : ℕ) (note : Note) → c ≢ client → noted old c at ≡ Some note →
+      (now : Note) × (noted new c at ≡ Some now) × IsMarked commit note now
+  pub none : (c at : ℕ) → c ≢ client → noted old c at ≡ None → noted new c at ≡ None
+  pub clients : length new.transactions.items ≡ length old.transactions.items

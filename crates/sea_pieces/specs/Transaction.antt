@@ -8,6 +8,7 @@ use Rattle.sea_object.specs.Objects.{ObjectMap}
 use Rattle.sea_object.specs.Op.{IsWithinLimits}
 use Rattle.sea_pieces.specs.declared.piece.Piece.{Piece}
 use Rattle.sea_pieces.specs.Laying.{IsServed, pieces_of}
+use Rattle.sea_pieces.specs.Spelling.{IsPiece}
 
 -- the items of the operations that were done, and the pieces that a commit lays over the objects
 pub record Done : Type 0 where
@@ -20,3 +21,4 @@ pub record Did (ops : List Op) (done : Done) (objects : ObjectMap) : Type 0 wher
   pub within : AllByRecursion IsWithinLimits ops
   pub answered : done.items ≡ items ops objects
   pub changed : done.pieces ≡ pieces_of ops
+  pub fit : AllByRecursion IsPiece done.pieces

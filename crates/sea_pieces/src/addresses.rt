@@ -1,5 +1,5 @@
 //! The addresses of objects.
-ghost use Rattle.std.specs.Prelude.{◌≡◌, IfOk, OnErr};
+ghost use Rattle.std.specs.Prelude.{◌≡◌, option_map, IfOk, OnErr};
 
 use sea_base::{Duplicate, Laddr, Name, NoMemory};
 use std::alloc::Global;
@@ -37,6 +37,17 @@ impl Addresses {
     {
         Addresses {
             addresses: BTreeMap::new(alloc),
+        }
+    }
+
+    /// The address of a name that was met.
+    pub fn of(&self, name: &Name) -> Option<Laddr>
+        ensures address { option_map (λ at. at.0) result ≡ map.get self.now name.now }
+        ensures apart { AreApart self.now }
+    {
+        match self.addresses.get(name) {
+            Some(at) => Some(Laddr(*at)),
+            None => None,
         }
     }
 

@@ -4,6 +4,7 @@
 mod addresses;
 mod committed;
 mod content;
+mod late;
 mod piece;
 mod spelling;
 mod store;

@@ -74,6 +74,16 @@ impl Transaction {
         self.pieces.items()
     }
 
+    /// The items of the operations that were done, and the pieces that a commit lays over the
+    /// committed objects.
+    pub fn into_parts(self) -> (Items, Pieces)
+        ensures items { result.0 ≡ self.items }
+        ensures pieces { result.1 ≡ self.pieces }
+        ensures fit { AllByRecursion IsPiece self.pieces }
+    {
+        (self.items, self.pieces)
+    }
+
     /// Does an operation on the committed objects with the transaction's own changes over them. It
     /// is right on all objects that have the same where it read the committed ones. After want of
     /// memory the transaction is to be given up.

@@ -1,54 +1,40 @@
-use Rattle.std.proofs.Common.{refl, ap, subst, ◌∙◌, take}
-use Rattle.sea_pieces.specs.Committed.{objects_in, with_piece, with_pieces}
-use Rattle.sea_pieces.specs.Noted.{AreBefore}
-use Rattle.sea_pieces.proofs.Committing.{ended_before, ended_noted, later_up_to, objects_with_pieces, take_whole, with_more}
-use Rattle.sea_pieces.proofs.Stable.{board_kept}
+use Rattle.std.proofs.Common.{◌≡◌, ℕ, sym, ap, subst, ◌∙◌, arith}
+use Rattle.sea_sets.specs.Board.{is_open_in, place_of}
+use Rattle.sea_pieces.specs.Committed.{VersionMap, with_pieces}
+use Rattle.sea_pieces.specs.Noted.{AreMarked, AreNoted}
+use Rattle.sea_pieces.proofs.Marked.{commit_keeps, committed_noted, committed_up_to, ended_marked}
+use Rattle.sea_pieces.proofs.Stable.{settled_versions}
 use Rattle.sea_pieces.proofs.store.PieceStore.commit.Goals as goal
 
 pub invariant_of-self : goal.invariant_of-self
 invariant_of-self c =
     let old = c.args.self.now in
+    let commit = c.args.commit in
     record {
-      versions = later_up_to old.committed old.last c.args.commit c.requires.later old.versions;
-      notes = ended_noted c.args.client old.board c.end.new.self c.end.ensures old.committed old.addresses old.last c.args.commit c.requires.later old.notes;
+      versions = committed_up_to old commit c.of.result c.requires.prepared.settled c.requires.later;
+      notes = committed_noted c.args.client old commit c.of.result c.end.new.self c.mark.new.board c.requires.prepared.settled c.requires.later c.end.ensures
+          (λ m notes. subst (λ ps. AreNoted (with_pieces commit ps m) old.addresses commit c.mark.new.board) (c.items.ensures ∙ sym c.of.ensures) (c.mark.ensures.noted m notes));
     }
-
-pub loop-piece-init : goal.loop-piece-init
-loop-piece-init c =
-    let old = c.args.self.now in (
-      refl,
-      (
-        ended_before c.args.client old.board c.end.new.self c.end.ensures old.committed old.addresses old.last c.args.commit c.requires.later old.notes,
-        (board_kept c.args.client old c.end.new.self c.end.ensures.others, refl),
-      ),
-    )
-
-pub loop-piece-preserved : goal.loop-piece-preserved
-loop-piece-preserved c =
-    let inv = c.loop-piece.invariant in
-    let items = c.changes-piece-items.result.now in
-    let p = c.piece-item.result in (
-      c.lay.ensures.last ∙ inv.0,
-      (
-        subst (λ k. AreBefore k c.lay.new.self.board) (c.lay.ensures.last ∙ inv.0) c.in_ok-lay.ensures.before,
-        (
-          (λ o no ops done s. c.lay.ensures.stable o ops done (inv.1.1.0 o no ops done s)),
-          c.in_ok-lay.ensures.ok ∙ ap (λ k. with_piece k p c.loop-piece.self.committed) inv.0 ∙ ap (with_piece c.args.commit p) inv.1.1.1
-              ∙ ap (λ q. with_piece c.args.commit q (with_pieces c.args.commit (take c.loop-piece.piece-index items) c.args.self.now.committed)) c.piece-item.is
-              ∙ with_more c.args.commit items c.loop-piece.piece-index p c.args.self.now.committed c.loop-piece-test.true,
-        ),
-      ),
-    )
 
 pub returns-clause-versions : goal.returns-clause-versions
 returns-clause-versions c =
-    let laid = c.loop-piece.invariant.1.1.1 in
-    laid ∙ ap (λ ps. with_pieces c.args.commit ps c.args.self.now.committed)
-    (take_whole c.loop-piece.piece-index c.changes-piece-items.result.now c.loop-piece-test.false ∙ c.changes-piece-items.ensures.changes)
+    let old = c.args.self.now in
+    let commit = c.args.commit in
+    c.settle.ensures.grows.versions
+    ∙ ap (λ ps. with_pieces commit ps old.committed) c.of.ensures
+    ∙ ap (with_pieces commit c.args.change) (sym (settled_versions old c.requires.prepared.settled))
 
-pub returns-clause-objects : goal.returns-clause-objects
-returns-clause-objects c =
-    ap objects_in (returns-clause-versions c) ∙ objects_with_pieces c.args.commit c.args.transaction.now.pieces c.args.self.now.committed
+pub returns-clause-closed : goal.returns-clause-closed
+returns-clause-closed c =
+    ap (λ b. is_open_in (place_of b c.args.client)) c.settle.ensures.grows.board
+    ∙ c.mark.ensures.marked.is_open c.args.client (λ none. absurd (omega (arith, none, c.requires.client)))
+    ∙ c.end.ensures.closed
 
-pub returns-in_err-lay-clause-others : goal.returns-in_err-lay-clause-others
-returns-in_err-lay-clause-others c = λ o no ops done s. c.lay.ensures.stable o ops done (c.loop-piece.invariant.1.1.0 o no ops done s)
+pub returns-clause-marks : goal.returns-clause-marks
+returns-clause-marks c =
+    subst (AreMarked c.args.client c.args.commit c.args.self.now.board) (sym c.settle.ensures.grows.board)
+    (ended_marked c.args.client c.args.commit c.args.self.now.board c.end.new.self c.mark.new.board c.end.ensures c.mark.ensures.marked)
+
+pub returns-clause-others : goal.returns-clause-others
+returns-clause-others c =
+    commit_keeps c.args.client c.args.self.now c.settle.new.self c.args.commit c.args.change c.requires.later (returns-clause-versions c) c.settle.ensures.grows.addresses (returns-clause-marks c)

@@ -1,10 +1,15 @@
-use Rattle.std.proofs.Common.{◌≡◌, Some, Result, Ok, Err, OnOk, refl, sym, ap, subst, ◌∙◌}
+use Rattle.std.proofs.Common.{◌≡◌, Some, Result, Ok, Err, OnOk, OnErr, ℕ, Option, inl, inr, refl, sym, ap, subst, ◌∙◌}
 use Rattle.std.specs.FinMap.{get, insert}
 use Rattle.sea_object.proofs.Lookups.{get-insert_same}
+use Rattle.sea_base.specs.declared.place.Commit.{Commit}
 use Rattle.sea_sets.specs.Board.{NotesRead}
+use Rattle.sea_sets.specs.declared.notes.Note.{Note}
 use Rattle.sea_pieces.specs.Addresses.{address_of}
+use Rattle.sea_pieces.specs.Committed.{version_of}
 use Rattle.sea_pieces.specs.Noted.{AreNoted}
-use Rattle.sea_pieces.proofs.Noting.{meet_keeps, met_noted, note_stays, read_noted, read_others, was_quiet}
+use Rattle.sea_pieces.specs.Store.{versions_of}
+use Rattle.sea_pieces.proofs.Noting.{meet_keeps, met_noted, note_stays, noted_most, read_noted, read_others, was_quiet}
+use Rattle.sea_pieces.proofs.Stable.{settled_versions}
 use Rattle.sea_pieces.proofs.store.PieceStore.note.Goals as goal
 
 on_ok : {T E P Q : Type 0} (r : Result T E) → (P → Q) → OnOk r P → OnOk r Q
@@ -17,11 +22,12 @@ invariant_of-self-2 c =
     let name = c.args.name.now in
     let met : c.meet.new.self ≡ insert old.addresses name (address_of old.addresses name) = c.in_ok-at.ensures.met ∙ ap (insert old.addresses name) c.in_ok-at.ensures.address in
     let here : get c.meet.new.self name ≡ Some c.in_ok-at.at.0 = ap (λ m. get m name) c.in_ok-at.ensures.met ∙ get-insert_same old.addresses name c.in_ok-at.at.0 in
-    let read = subst (λ seen. OnOk c.note_read.result (NotesRead c.args.client c.in_ok-at.at.0 seen old.board c.note_read.new.self)) c.version-seen.ensures c.note_read.ensures.ok in
+    let found : c.version-seen.result ≡ version_of (versions_of old) name = c.version-seen.ensures ∙ ap (λ m. version_of m name) (sym (settled_versions old c.requires.settled)) in
+    let read = subst (λ seen. OnOk c.note_read.result (NotesRead c.args.client c.in_ok-at.at.0 seen old.board c.note_read.new.self)) found c.note_read.ensures.ok in
     record {
       versions = old.versions;
       notes = read_noted c.note_read.result c.args.client c.in_ok-at.at.0 name read c.note_read.ensures.err
-          (subst (λ m. AreNoted old.committed m old.last old.board) (sym met) (met_noted old.addresses name old.committed old.last old.board old.notes))
+          (subst (λ m. AreNoted (versions_of old) m old.last old.board) (sym met) (met_noted old.addresses name (versions_of old) old.last old.board old.notes))
           c.in_ok-at.ensures.apart old.versions here;
     }
 
@@ -31,7 +37,7 @@ returns-clause-continues c =
     let name = c.args.name.now in
     let met : c.meet.new.self ≡ insert old.addresses name (address_of old.addresses name) = c.in_ok-at.ensures.met ∙ ap (insert old.addresses name) c.in_ok-at.ensures.address in
     record {
-      committed = refl;
+      versions = refl;
       last = refl;
       addresses = λ q at is. ap (λ m. get m q) met ∙ meet_keeps old.addresses name q at is;
       others = read_others c.args.client c.in_ok-at.at.0 c.version-seen.result old.board c.note_read.new.self c.note_read.result c.note_read.ensures.ok c.note_read.ensures.err;
@@ -53,3 +59,22 @@ returns-clause-noted c =
       kept = λ objects shares q p is note found. shares q p (ap (λ m. get m q) met ∙ meet_keeps old.addresses name q p is) note (note_stays client at seen old.board new read p note found);
       shared = λ objects shares. shares name at here _ read.here;
     }) c.note_read.ensures.ok
+
+pub returns-clause-notes : goal.returns-clause-notes
+returns-clause-notes c = λ at.
+    let old = c.args.self.now in
+    let name = c.args.name.now in
+    let here : get c.meet.new.self name ≡ Some c.in_ok-at.at.0 = ap (λ m. get m name) c.in_ok-at.ensures.met ∙ get-insert_same old.addresses name c.in_ok-at.at.0 in
+    let found : c.version-seen.result ≡ version_of (versions_of old) name = c.version-seen.ensures ∙ ap (λ m. version_of m name) (sym (settled_versions old c.requires.settled)) in
+    elim (noted_most c.note_read.result c.args.client c.in_ok-at.at.0 c.version-seen.result old.board c.note_read.new.self c.note_read.ensures.ok c.note_read.ensures.err at) [
+      | inl same ↦ inl same
+      | inr new ↦ inr (
+        name,
+        refl,
+        record {
+          fresh = new.0;
+          address = here ∙ ap (λ (n : ℕ). Some n) (sym new.1);
+          found = new.2 ∙ ap (λ (v : Option Commit). let n : Note = record { seen = v; current = v } in Some n) found;
+        },
+      )
+    ]

@@ -15,3 +15,4 @@ returns-clause-did c = λ ops objects did shares.
     did_more ops op done _ objects committed did c.requires.served c.requires.limits shares
     (c.in_ok-push.ensures.ok ∙ ap (λ (x : Item). c.self.inside.items ++ x ∷ []) c.in_ok-made.ensures ∙ ap (λ (d : Done). d.items ++ item op (after_pieces done.pieces committed) ∷ []) c.self.view_is)
     (c.in_ok-push_pieces.ensures.pieces ∙ ap (λ (d : Done). d.pieces ++ op_pieces op) c.self.view_is)
+    (c.in_ok-push_pieces.ensures.fit c.self.invariant)
