@@ -1,6 +1,6 @@
 //! The committed objects, and which open transactions a commit overtakes.
-ghost use Rattle.std.specs.Prelude.{◌≡◌, ℕ, ◌<◌, ◌∷◌, [], ◌++◌, List, Some, None, false, MatchOption, drop};
-ghost use Rattle.std.specs.Prelude.{IfOk, OnOk, IfSome, IfNone};
+ghost use Rattle.std.specs.Prelude.{◌≡◌, ℕ, ◌<◌, ◌∷◌, [], ◌++◌, List, Some, None, false, drop};
+ghost use Rattle.std.specs.Prelude.{IfOk, OnOk, IfSome, IfNone, MatchOption};
 ghost use Rattle.std.specs.List.{AllByRecursion};
 ghost use Rattle.std.specs.Option.{option_copied};
 ghost use Rattle.std.specs.FinMap as map;
@@ -203,9 +203,9 @@ impl PieceStore {
         let _ = self.settle();
     }
 
-    /// The least address that a client's transaction read and whose object no longer has the version
-    /// that was found, an absence included. Without one, the transaction did its operations on the
-    /// committed objects as they are.
+    /// The least address that a client's transaction read and whose object no longer has the
+    /// version that was found, an absence included. Without one, the transaction did its operations
+    /// on the committed objects as they are.
     pub fn is_sent_back(&self, client: u32) -> Option<Conflict>
         requires { HasClient self.now.board client }
         ensures sent { MatchOption result (HasNoConflict self.now.board client)

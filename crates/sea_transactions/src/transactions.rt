@@ -1,5 +1,6 @@
 //! Transactions of clients on a committed map of objects.
-ghost use Rattle.std.specs.Prelude.{◌≡◌, ℕ, ◌+◌, ◌*◌, ◌<◌, ◌≤◌, List, [], ◌∷◌, ◌++◌, length, sum_by};
+ghost use Rattle.std.specs.Prelude.{◌≡◌, ℕ, ◌+◌, ◌*◌, ◌<◌, ◌≤◌, length, sum_by};
+ghost use Rattle.std.specs.Prelude.{List, [], ◌∷◌, ◌++◌};
 ghost use Rattle.std.specs.Prelude.{IfOk, OnOk, OnErr, MatchBool, MatchOption, MatchResult};
 ghost use Rattle.sea_object.specs.declared.op.Op.{Op};
 ghost use Rattle.sea_object.specs.Answer.{after, answer};
@@ -100,8 +101,8 @@ pub trait Transactions {
         ensures { MatchOption result (AllStand ((state self.now).transaction client).noted)
             (IsFirstConflict ((state self.now).transaction client).noted) };
 
-    /// The bytes of the change that a client's transaction makes, for the record of its commit. There
-    /// are none where it changes nothing.
+    /// The bytes of the change that a client's transaction makes, for the record of its commit.
+    /// There are none where it changes nothing.
     fn change(&self, client: u32) -> Result<Data, NoMemory>
         requires { IsOpen (state self.now) client }
         ensures { IfOk result (λ bytes. bytes ≡ ((state self.now).transaction client).change) };
@@ -113,8 +114,8 @@ pub trait Transactions {
         ensures stays { Stays state did client self.old self.new }
         ensures keeps { Keeps state did client self.old self.new };
 
-    /// Commits a client's transaction, that is not to be sent back, and ends it. What it changed has
-    /// the commit's number as version.
+    /// Commits a client's transaction, that is not to be sent back, and ends it. What it changed
+    /// has the commit's number as version.
     fn commit(&mut self, client: u32, commit: Commit) -> Reply
         requires open { IsOpen (state self.old) client }
         requires ready { ready self.old client }
@@ -132,7 +133,8 @@ pub trait Transactions {
         ensures closed { IsClosed (state self.new) client }
         ensures keeps { Keeps state did client self.old self.new };
 
-    /// A transaction that is not to be sent back has the reply of the committed objects as they are.
+    /// A transaction that is not to be sent back has the reply of the committed objects as they
+    /// are.
     ghost right: { (t : Self) (client : ℕ) (ops : List Op) →
         AllStand ((state t).transaction client).noted → did t client ops →
         ((state t).transaction client).reply ≡ answer ops (state t).objects };
@@ -146,7 +148,8 @@ pub trait Transactions {
     /// The change has as many blocks as its operations write, and one for each of them, at most.
     ghost small: { (t : Self) (client : ℕ) (ops : List Op) →
         AllStand ((state t).transaction client).noted → did t client ops →
-        length ((state t).transaction client).change ≤ 4096 * (sum_by data_blocks ops + length ops) };
+        length ((state t).transaction client).change
+        ≤ 4096 * (sum_by data_blocks ops + length ops) };
 
     /// Bytes make one map of another.
     ghost one: { (bytes : List ℕ) (objects first second : ObjectMap) →
