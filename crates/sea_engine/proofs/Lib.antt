@@ -4,4 +4,5 @@ pub mod Held
 pub mod Making
 pub mod Openings
 pub mod Phases
+pub mod Rising
 pub mod Totals

@@ -7,6 +7,11 @@ use Rattle.sea_record.specs.declared.record.Record.{Record}
 use Rattle.sea_trail.specs.declared.fault.ImageWhy.{ImageWhy}
 use Rattle.sea_trail.specs.declared.trail.Trail.{Trail}
 use Rattle.sea_trail.proofs.Unique.{one_trail, not_both}
+use Rattle.sea_trail.specs.Trail.{IsTrail}
+use Rattle.sea_engine.specs.Reading.{Shuts, strange_fault}
+use Rattle.sea_engine.specs.Replay.{IsCause}
+use Rattle.sea_engine.specs.declared.replay.ReplayFault.{ReplayFault}
+use Rattle.sea_engine.specs.declared.replay.ReplayFault.TheVariants.{NoMemory, Strange}
 use Rattle.sea_engine.specs.Opens.{Change, Lays, Makes, Opens, IsStrange, HasStrange, IsShut, no_trail, no_change}
 use Rattle.sea_engine.proofs.Making.{makes_one, makes_split}
 
@@ -28,3 +33,9 @@ not_shut lays image objects why opens (no_trail refused) = not_both image opens.
 not_shut lays image objects why opens (no_change block is has) =
     let same : opens.trail ≡ has.trail = one_trail image opens.trail has.trail opens.is_trail has.is_trail in
     not_strange lays has.trail.records block objects (subst (λ t. Makes lays t.records map.empty objects) same opens.made) has.strange
+
+-- why records made no objects is why their image is shut
+pub shut_by : (lays : Change) (image : List ℕ) (t : Trail) (fault : ReplayFault) → IsTrail image t → IsCause lays t.records fault → Shuts lays image (strange_fault fault)
+shut_by lays image t NoMemory is cause = tt
+shut_by lays image t (Strange block) is cause =
+    no_change block.0 refl (record { trail = t; is_trail = is; strange = cause })
