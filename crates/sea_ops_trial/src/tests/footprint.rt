@@ -1,0 +1,64 @@
+//! Which addresses an operation reads.
+
+use crate::fault::TrialFault;
+use crate::tests::plain_tree::{number_in, read_tree};
+use crate::tests::texts::requests_of;
+use crate::tests::twin::Twin;
+use sea_base::Nths;
+use std::alloc::Global;
+use std::process::Abort;
+
+const BEFORE: &str = "1 touch a ; touch b ; setattr b k x01 ; setattr a k x02\n";
+
+const OPERATIONS: &[&str] = &[
+    "touch a",
+    "setattr a j x",
+    "rmattr a k",
+    "read a 0 9",
+    "stat a",
+    "getattr a k",
+    "getattrs a",
+    "omap_get a k",
+    "omap_list a 9",
+];
+
+// The first address of an object.
+fn base_of(alloc: Global, twin: &Twin, name: &[u8]) -> Result<u64, TrialFault> {
+    let tree = read_tree(alloc, twin.blocks(), 1).map_err(|_| TrialFault::BadName)?;
+    for (key, value) in &tree.pairs {
+        if key.as_slice() == name {
+            return Ok(number_in(value.get(..8).unwrap_or(&[])));
+        }
+    }
+    Err(TrialFault::BadName)
+}
+
+// Whether an operation on `a` reads and changes no address of `b`.
+fn leaves_others(rt: &impl Abort, alloc: Global, operation: &str) -> Result<bool, TrialFault> {
+    let script = format!(in alloc; "{BEFORE}1 {operation}\n")?;
+    let requests = requests_of(alloc, script.as_str())?;
+    let [before, last] = requests.as_slice() else {
+        return Err(TrialFault::BeyondLimits);
+    };
+    let mut twin = Twin::new(alloc, Nths::new(alloc));
+    twin.serve(rt, before)?;
+    let base = base_of(alloc, &twin, b"b")?;
+    let (gets, changed) = (twin.space().gets().len(), twin.space().changed().len());
+    twin.serve(rt, last)?;
+    let space = twin.space();
+    assert!(rt; space.gets().len() > gets, "{operation}");
+    let mut noted = space
+        .gets()
+        .iter()
+        .skip(gets)
+        .chain(space.changed().iter().skip(changed));
+    Ok(noted.all(|at| at.0 < base || at.0 >= base.saturating_add(4098)))
+}
+
+#[test]
+fn an_operation_reads_nothing_of_another_object(rt: HostRuntime) -> Result<(), TrialFault> {
+    for operation in OPERATIONS {
+        assert!(rt; leaves_others(&rt, rt.alloc(), operation)?, "{operation}");
+    }
+    Ok(())
+}
