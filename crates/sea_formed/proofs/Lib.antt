@@ -1,0 +1,4 @@
+pub mod Filled
+pub mod Placed
+pub mod Refuted
+pub mod Walks

@@ -1,0 +1,4 @@
+pub mod Blocks
+pub mod Place
+pub mod Trees
+pub mod Wrong
