@@ -8,7 +8,8 @@ use Rattle.sea_tree.specs.Tree.{IsNodeOf}
 use Rattle.sea_tree.specs.Content.{HasContent}
 
 -- A tree is well formed, its pairs in order are these, and these are its nodes, each once.
-pub record IsTreeOf (store : Store) (root : ℕ) (pairs : List Entry) (walked : List ℕ) : Type 0 where
+pub record IsTreeOf (store : Store) (root : ℕ) (pairs : List Entry)
+    (walked : List ℕ) : Type 0 where
   pub content : HasContent store root (map.from_sorted pairs)
   pub rising : IsRising pairs
   pub once : AllPairs ◌≢◌ walked

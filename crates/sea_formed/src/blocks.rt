@@ -33,6 +33,14 @@ impl Blocks {
         Ok(())
     }
 
+    /// Leaves nothing at an address.
+    pub fn remove(&mut self, at: u64)
+        ensures { (q : ℕ)
+            → store_of self.new q ≡ (if q == at then None else store_of self.old q) }
+    {
+        self.blocks.remove(&at);
+    }
+
     /// The block at an address.
     pub fn get(&self, at: u64) -> Option<&Block>
         ensures { option_copied result ≡ store_of self.now at }
