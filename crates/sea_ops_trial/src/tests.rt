@@ -1,12 +1,9 @@
 mod dice;
 mod faults;
 mod footprint;
-mod formed;
 mod limits;
-mod plain_tree;
 mod random;
 mod rows;
 mod texts;
 mod twin;
 mod watched;
-mod wrong;

@@ -1,10 +1,11 @@
 //! Which addresses an operation reads.
 
 use crate::fault::TrialFault;
-use crate::tests::plain_tree::{number_in, read_tree};
 use crate::tests::texts::requests_of;
 use crate::tests::twin::Twin;
 use sea_base::Nths;
+use sea_formed::read_tree;
+use sea_onode::read_onode;
 use std::alloc::Global;
 use std::process::Abort;
 
@@ -26,8 +27,9 @@ const OPERATIONS: &[&str] = &[
 fn base_of(alloc: Global, twin: &Twin, name: &[u8]) -> Result<u64, TrialFault> {
     let tree = read_tree(alloc, twin.blocks(), 1).map_err(|_| TrialFault::BadName)?;
     for (key, value) in &tree.pairs {
-        if key.as_slice() == name {
-            return Ok(number_in(value.get(..8).unwrap_or(&[])));
+        if key.bytes() == name {
+            let onode = read_onode(value.bytes()).ok_or(TrialFault::BadName)?;
+            return Ok(onode.base.0);
         }
     }
     Err(TrialFault::BadName)

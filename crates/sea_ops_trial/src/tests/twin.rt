@@ -2,10 +2,9 @@
 
 use crate::fault::TrialFault;
 use crate::store::ObjectStore;
-use crate::tests::formed::{Held, objects_in};
-use crate::tests::plain_tree::{Blocks, PlainPair};
 use crate::tests::watched::WatchedSpace;
-use sea_base::{Data, Duplicate, Laddr, Name, Nths, Pairs};
+use sea_base::{Data, Duplicate, Key, Laddr, Nths, Pairs};
+use sea_formed::{Blocks, Held, objects_in};
 use sea_object::{Item, Items, Object, Objects, Op, Ops, Reply, Request};
 use std::alloc::Global;
 use std::process::Abort;
@@ -84,7 +83,7 @@ impl Twin {
                     self.blocks.insert(at.0, block)?;
                 }
                 None => {
-                    self.blocks.remove(&at.0);
+                    self.blocks.remove(at.0);
                 }
             }
         }
@@ -94,7 +93,7 @@ impl Twin {
     // Lays the noted blocks over those that were changed.
     fn take_back(&mut self, first: usize) -> Result<(), TrialFault> {
         for at in self.changed_from(first)? {
-            let block = match self.blocks.get(&at.0) {
+            let block = match self.blocks.get(at.0) {
                 Some(block) => Some(block.share()?),
                 None => None,
             };
@@ -120,10 +119,9 @@ impl Twin {
             "the objects of the store"
         );
         for one in &held {
-            let name = Name::new(self.alloc, &one.name)?;
-            match self.objects.get(&name) {
-                Some(object) => assert!(rt; holds(one, object)?, "{name:?}"),
-                None => assert!(rt; false, "{name:?} is no object"),
+            match self.objects.get(&one.name) {
+                Some(object) => assert!(rt; holds(one, object)?, "{:?}", one.name),
+                None => assert!(rt; false, "{:?} is no object", one.name),
             }
         }
         Ok(())
@@ -158,19 +156,11 @@ impl Twin {
 fn holds(held: &Held, object: &Object) -> Result<bool, TrialFault> {
     Ok(
         held.bytes.as_slice() == object.bytes()
-            && are_same(&held.attributes, &object.attributes().all()?)
-            && are_same(&held.omap, &object.omap().all()?),
+            && are_same(&held.attributes.pairs, &object.attributes().all()?)
+            && are_same(&held.omap.pairs, &object.omap().all()?),
     )
 }
 
-fn are_same(held: &[PlainPair], pairs: &Pairs) -> bool {
-    held.len() == pairs.items().len()
-        && held
-            .iter()
-            .zip(pairs.items())
-            .all(|(one, other)| is_same(one, other))
-}
-
-fn is_same(held: &PlainPair, pair: &(Name, Data)) -> bool {
-    held.0.as_slice() == pair.0.bytes() && held.1.as_slice() == pair.1.bytes()
+fn are_same(held: &[(Key, Data)], pairs: &Pairs) -> bool {
+    held == pairs.items()
 }
