@@ -9,6 +9,8 @@ pub mod Makes
 pub mod Names
 pub mod Parts
 pub mod Putting
+pub mod Removed
+pub mod Removes
 pub mod Stable
 pub mod Taking
 pub mod TurnFails

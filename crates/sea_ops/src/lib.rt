@@ -7,6 +7,7 @@ mod clearing;
 mod law;
 mod making;
 mod omap;
+mod removing;
 
 pub use asking::{get_attr, get_attrs, list, omap_get, omap_list, read, stat};
 pub use attributes::{remove_attr, set_attr};
@@ -14,3 +15,4 @@ pub use clearing::{omap_clear, remove_attrs};
 pub use law::transaction_laws;
 pub use making::touch;
 pub use omap::{omap_remove_keys, omap_set_keys};
+pub use removing::remove;
