@@ -3,6 +3,8 @@ pub mod Asked
 pub mod Emptied
 pub mod Examples
 pub mod Frames
+pub mod KeyRange
+pub mod KeyRanges
 pub mod Keys
 pub mod Made
 pub mod Makes

@@ -9,7 +9,9 @@ use Rattle.sea_base.proofs.Spaces.{only_read-refl, laid-gives}
 use Rattle.sea_node.specs.Entries.{Values, key_order}
 use Rattle.sea_node.proofs.Keys.{key_order_total, same_key}
 use Rattle.sea_object.specs.declared.onode.Onode.{Onode}
+use Rattle.sea_object.specs.declared.op.Op.{Op}
 use Rattle.sea_object.specs.declared.op.Op.TheVariants.{Touch}
+use Rattle.sea_object.specs.declared.reply.Item.{Item}
 use Rattle.sea_object.specs.declared.reply.Item.TheVariants.{Unit as Nothing}
 use Rattle.sea_object.specs.Answer as model
 use Rattle.sea_object.specs.Objects.{ObjectValue, ObjectMap, empty_object}
@@ -124,7 +126,7 @@ module _ (old mid new : Seen) (first : OnlyRead old mid) where
       absent_object store (Some o) is = absurd is
 
 -- what is put in place of itself
-insert_same : (objects : ObjectMap) (name : List ℕ) (o : ObjectValue) → map.get objects name ≡ Some o → map.insert objects name o ≡ objects
+pub insert_same : (objects : ObjectMap) (name : List ℕ) (o : ObjectValue) → map.get objects name ≡ Some o → map.insert objects name o ≡ objects
 insert_same objects name o has = same_map key_order_total same_key (map.insert objects name o) objects (λ q. get-insert key_order_total objects name o q ∙ by q (eq_by_cmp key_order q name) refl)
   where
     by : (q : List ℕ) (b : Bool) → eq_by_cmp key_order q name ≡ b → cond b (Some o) (map.get objects q) ≡ map.get objects q
@@ -135,19 +137,29 @@ there_is : (store : Store) (here : Onode) (object : Option ObjectValue) → AreO
 there_is store here None is = absurd is
 there_is store here (Some o) is = (o, refl)
 
--- a name that has an object is touched
-pub touches_there : (old new : Seen) (first : OnlyRead old new) (name : List ℕ) (here : Onode) → onode.Finds name old new (Some here) → Does (Touch name) Nothing old new
+-- An operation on an object that leaves the objects as they are, and only reads.
+pub does_nothing : (op : Op) (item : Item) (old new : Seen) (first : OnlyRead old new) (name : List ℕ) (here : Onode) → onode.Finds name old new (Some here)
+    → ((objects : ObjectMap) (o : ObjectValue) → map.get objects name ≡ Some o → (model.refusal op objects ≡ None) × (item ≡ model.item op objects) × (model.effect op objects ≡ objects)) → Does op item old new
 unfolding formed_as
-touches_there old new first name here finds = record {
+does_nothing op item old new first name here finds same = record {
   notes = first.noted;
   rises = omega (arith, first.next);
   does = λ store next objects m.
       let has = there_is (laid old store) here (map.get objects name) (found store next objects old new new first (only_read-refl new) m name (Some here) finds) in
+      let is = same objects has.0 has.1 in
       record {
-        allowed = ap (model.refusal_at (Touch name)) has.1;
-        answers = sym (ap (model.item_at (Touch name)) has.1);
-        formed = formed_as (laid old store) (laid new store) next (max next new.next) objects (model.effect (Touch name) objects) m.formed (one_store first store) (omega arith) (ap (λ (o : Option ObjectValue). model.put_object (Some name) (model.object_after (Touch name) o) objects) has.1 ∙ insert_same objects name has.0 has.1);
+        allowed = is.0;
+        answers = is.1;
+        formed = formed_as (laid old store) (laid new store) next (max next new.next) objects (model.effect op objects) m.formed (one_store first store) (omega arith) is.2;
         leaves = λ at free apart. record { low = free.low; empty = ap (λ (s : Store). s at) (one_store first store) ∙ free.empty; unused = free.unused };
         within = λ at now. inl (sym (first.changed at) ∙ now);
       };
 }
+
+-- a name that has an object is touched
+pub touches_there : (old new : Seen) (first : OnlyRead old new) (name : List ℕ) (here : Onode) → onode.Finds name old new (Some here) → Does (Touch name) Nothing old new
+touches_there old new first name here finds = does_nothing (Touch name) Nothing old new first name here finds (λ objects o has. (
+  ap (model.refusal_at (Touch name)) has,
+  sym (ap (model.item_at (Touch name)) has),
+  ap (λ (z : Option ObjectValue). model.put_object (Some name) (model.object_after (Touch name) z) objects) has ∙ insert_same objects name o has,
+))

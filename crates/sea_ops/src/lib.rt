@@ -4,6 +4,7 @@
 mod asking;
 mod attributes;
 mod clearing;
+mod key_range;
 mod law;
 mod making;
 mod omap;
@@ -12,6 +13,7 @@ mod removing;
 pub use asking::{get_attr, get_attrs, list, omap_get, omap_list, read, stat};
 pub use attributes::{remove_attr, set_attr};
 pub use clearing::{omap_clear, remove_attrs};
+pub use key_range::omap_remove_key_range;
 pub use law::transaction_laws;
 pub use making::touch;
 pub use omap::{omap_remove_keys, omap_set_keys};
