@@ -6,8 +6,8 @@ use Rattle.sea_base.proofs.Fields.{length-big_endian, one_byte}
 use Rattle.sea_base.proofs.Slices.{slice_at, slice_then}
 use Rattle.sea_pieces.specs.declared.piece.Piece.{Piece}
 use Rattle.sea_pieces.specs.Spelling.{IsPiece, piece_bytes}
-use Rattle.sea_pieces.proofs.Lengths.{length-piece_bytes}
-use Rattle.sea_pieces.proofs.SamePieces.{piece_parts}
+use Rattle.sea_pieces.specs.SpellingLaws.{length-piece_bytes}
+use Rattle.sea_pieces.specs.SpellingLaws.{piece_parts}
 
 -- where the fields of a piece stand, whose name has n bytes
 pub record PieceFields (bytes : List ℕ) (n : ℕ) (p : Piece) : Type 0 where

@@ -2,8 +2,6 @@ pub mod Apart
 pub mod Committing
 pub mod Fields
 pub mod LatePieces
-pub mod Laying
-pub mod Lengths
 pub mod Marking
 pub mod Marked
 pub mod Meeting
@@ -11,9 +9,9 @@ pub mod Moving
 pub mod Noting
 pub mod ReadPieces
 pub mod Reading
-pub mod SamePieces
 pub mod Seen
 pub mod Shared
 pub mod Stable
 pub mod Telling
 pub mod Versions
+pub mod Works

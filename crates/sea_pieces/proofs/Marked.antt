@@ -1,7 +1,6 @@
 -- What a commit leaves of notes, and of the transactions of others.
 use Rattle.std.proofs.Common.{◌≡◌, ◌≢◌, ◌⊎◌, inl, inr, ℕ, zero, suc, ◌<◌, Bool, true, false, cond, nat_eq, List, [], ◌∷◌, Option, Some, None, refl, sym, ap, subst, ◌∙◌, arith}
 use Rattle.std.specs.Prelude.{option_map, unwrap_or}
-use Rattle.std.specs.Option.{ForSome}
 use Rattle.std.specs.Ordering.{nat_cmp, eq_by_cmp}
 use Rattle.std.specs.Cmp.Lexicographic.{slice_cmp, nat_list_cmp_total}
 use Rattle.std.specs.FinMap.{get, get-insert}
@@ -11,17 +10,14 @@ use Rattle.sea_sets.specs.declared.board.Board.{Board}
 use Rattle.sea_sets.specs.declared.notes.Change.{Change}
 use Rattle.sea_sets.specs.declared.notes.Note.{Note}
 use Rattle.sea_sets.specs.Versions.{moved_on, version_after}
-use Rattle.sea_sets.specs.Board.{Ends, HasNoConflict, Marks, is_open_in, noted, noted_in, place_of}
-use Rattle.sea_object.specs.declared.op.Op.{Op}
-use Rattle.sea_object.specs.Objects.{ObjectMap}
+use Rattle.sea_sets.specs.Board.{Ends, Marks, is_open_in, noted, noted_in, place_of}
 use Rattle.sea_pieces.specs.declared.piece.Piece.{Piece}
 use Rattle.sea_pieces.specs.declared.committed.Version.{Version}
 use Rattle.sea_pieces.specs.declared.store.PieceStore.{PieceStore}
 use Rattle.sea_pieces.specs.Committed.{VersionMap, content_of, objects_in, plain_object, version_of, with_piece, with_pieces}
 use Rattle.sea_pieces.specs.Laying.{laid}
 use Rattle.sea_pieces.specs.Noted.{AreMarked, AreNoted, AreUpTo, IsMarked}
-use Rattle.sea_pieces.specs.Store.{IsStable, KeepsOthers, SharesReads, objects_of_store, versions_of}
-use Rattle.sea_pieces.specs.Transaction.{Did, Done}
+use Rattle.sea_pieces.specs.Store.{KeepsOthers, objects_of_store, versions_of}
 use Rattle.sea_pieces.proofs.Committing.{ended_noted, later_up_to}
 use Rattle.sea_pieces.proofs.Marking.{laid_up_to}
 use Rattle.sea_pieces.proofs.Moving.{version_laid}

@@ -1,6 +1,5 @@
 -- Notes and transactions as a piece of a commit is laid and all notes move on.
 use Rattle.std.proofs.Common.{◌≡◌, ℕ, zero, suc, ◌≤◌, Bool, true, false, cond, nat_eq, List, [], ◌∷◌, Some, None, refl, sym, ap, ◌∙◌, arith}
-use Rattle.std.specs.Option.{ForSome}
 use Rattle.std.specs.Ordering.{nat_cmp, eq_by_cmp}
 use Rattle.std.specs.Cmp.{eq_by_cmp_equiv}
 use Rattle.std.specs.Cmp.Lexicographic.{slice_cmp, nat_list_cmp_total}
@@ -13,20 +12,12 @@ use Rattle.sea_base.specs.declared.place.Commit.{Commit}
 use Rattle.sea_sets.specs.declared.board.Board.{Board}
 use Rattle.sea_sets.specs.declared.notes.Change.{Change}
 use Rattle.sea_sets.specs.declared.notes.Note.{Note}
-use Rattle.sea_sets.specs.Versions.{moved_on}
-use Rattle.sea_sets.specs.Board.{HasNoConflict, Marks, noted}
-use Rattle.sea_object.specs.declared.op.Op.{Op}
-use Rattle.sea_object.specs.Objects.{ObjectMap}
-use Rattle.sea_pieces.specs.declared.store.PieceStore.{PieceStore}
-use Rattle.sea_pieces.specs.Store.{IsStable}
-use Rattle.sea_pieces.specs.Transaction.{Did, Done}
+use Rattle.sea_sets.specs.Board.{Marks, noted}
 use Rattle.sea_pieces.specs.declared.piece.Piece.{Piece}
 use Rattle.sea_pieces.specs.Addresses.{AddressMap, AreApart}
-use Rattle.sea_pieces.specs.Committed.{VersionMap, objects_in, version_of, with_piece}
+use Rattle.sea_pieces.specs.Committed.{VersionMap, version_of, with_piece}
 use Rattle.sea_pieces.specs.Noted.{AreBefore, AreNoted, AreUpTo}
 use Rattle.sea_pieces.proofs.Moving.{Moved, moved, version_laid}
-use Rattle.sea_pieces.proofs.Shared.{get-after_piece}
-use Rattle.sea_pieces.proofs.Versions.{objects_with_piece}
 
 module _ (commit : Commit) (change : Change) (stays : change.gone ≡ false) (old new : Board) (marks : Marks 0 commit (change ∷ []) old new) where
   -- a note of now is one of before that was moved on

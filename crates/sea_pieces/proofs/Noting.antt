@@ -9,7 +9,7 @@ use Rattle.std.proofs.lemmas.Map.Lookups.{exact_bytes}
 use Rattle.std.proofs.lemmas.Map.Views.{tells_apart}
 use Rattle.std.proofs.lemmas.Option.{same_Some}
 use Rattle.sea_base.specs.declared.place.Commit.{Commit}
-use Rattle.sea_sets.specs.Board.{HasNoConflict, NotesRead, NotesNothing, OthersStay, noted, noted_in}
+use Rattle.sea_sets.specs.Board.{HasNoConflict, IsOpen, NotesRead, NotesNothing, OthersStay, noted, noted_in}
 use Rattle.sea_sets.specs.Versions.{first_note}
 use Rattle.sea_sets.specs.declared.board.Board.{Board}
 use Rattle.sea_sets.specs.declared.notes.Note.{Note}
@@ -137,6 +137,10 @@ module _ {T E : Type 0} (client here : ℕ) (seen : Option Commit) (old new : Bo
   pub read_others : (r : Result T E) → OnOk r (NotesRead client here seen old new) → OnErr r (NotesNothing client old new) → OthersStay client old new
   read_others (Ok x) read nothing = read.others
   read_others (Err e) read nothing = nothing.others
+
+  pub read_open : (r : Result T E) → OnOk r (NotesRead client here seen old new) → OnErr r (NotesNothing client old new) → IsOpen new client
+  read_open (Ok x) read nothing = read.is_open
+  read_open (Err e) read nothing = nothing.is_open
 
 -- a read is noted, or there was no memory for it
 pub read_noted : {T E : Type 0} {committed : VersionMap} {addresses : AddressMap} {last : Commit} {old new : Board} (r : Result T E) (client here : ℕ) (name : List ℕ) →

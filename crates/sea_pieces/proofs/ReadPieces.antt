@@ -6,8 +6,8 @@ use Rattle.std.proofs.lemmas.List.{append-nil}
 use Rattle.sea_pieces.specs.declared.piece.Piece.{Piece}
 use Rattle.sea_pieces.specs.Spelling.{IsPiece, piece_bytes, spelling}
 use Rattle.sea_pieces.specs.Spelling.{BeginsWithPiece, BeginsWithNoPiece, ArePieces}
-use Rattle.sea_pieces.proofs.Lengths.{length-piece_bytes, spelling-cons, spelling-nil, spelling-append}
-use Rattle.sea_pieces.proofs.SamePieces.{same_front}
+use Rattle.sea_pieces.specs.SpellingLaws.{length-piece_bytes, spelling-cons, spelling-nil, spelling-append}
+use Rattle.sea_pieces.specs.SpellingLaws.{same_front}
 
 pub none_read : (bytes : List ℕ) (pieces : List Piece) → pieces ≡ [] → AllByRecursion IsPiece pieces × (bytes ≡ spelling pieces ++ bytes)
 none_read bytes pieces e =

@@ -1,8 +1,8 @@
 -- The reads of an operation, after late pieces were laid.
-use Rattle.std.proofs.Common.{◌≡◌, ℕ, List, [], Some, None, inl, inr, refl, sym, ap, subst, ◌∙◌}
+use Rattle.std.proofs.Common.{◌≡◌, ℕ, List, [], Option, Some, None, inl, inr, refl, sym, ap, subst, ◌∙◌}
 use Rattle.sea_object.specs.declared.op.Op.{Op}
 use Rattle.sea_object.specs.Objects.{ObjectMap}
-use Rattle.sea_sets.specs.Board.{HasNoConflict, noted}
+use Rattle.sea_sets.specs.Board.{HasNoConflict, IsOpen, is_open_in, noted, place_of}
 use Rattle.sea_pieces.specs.declared.store.PieceStore.{PieceStore}
 use Rattle.sea_pieces.specs.Committed.{objects_in}
 use Rattle.sea_pieces.specs.Laying.{SharesRead, read_name}
@@ -25,18 +25,21 @@ module _ (client : ℕ) (op : Op) (old mid new : PieceStore) (grows : Grows old 
   }
 
   pub notes_since : NotesAtMost (read_name op) client mid new → NotesAtMost (read_name op) client old new
-  notes_since notes at = elim (notes at) [
-    | inl same ↦ inl (same ∙ ap (λ b. noted b client at) grows.board)
-    | inr first ↦ inr (
-      first.0,
-      first.1,
-      record {
-        fresh = sym (ap (λ b. noted b client at) grows.board) ∙ first.2.fresh;
-        address = first.2.address;
-        found = first.2.found;
-      },
-    )
-  ]
+  notes_since most = record {
+    is_open = most.is_open;
+    notes = λ at. elim (most.notes at) [
+      | inl same ↦ inl (same ∙ ap (λ b. noted b client at) grows.board)
+      | inr first ↦ inr (
+        first.0,
+        first.1,
+        record {
+          fresh = sym (ap (λ b. noted b client at) grows.board) ∙ first.2.fresh;
+          address = first.2.address;
+          found = first.2.found;
+        },
+      )
+    ];
+  }
 
   pub reads_name : (name : List ℕ) → NotesName client name mid new → NotesAtMost (Some name) client mid new → new.late ≡ [] → Some name ≡ read_name op → Reads client op old new
   reads_name name noted notes settled is = record {
@@ -46,12 +49,18 @@ module _ (client : ℕ) (op : Op) (old mid new : PieceStore) (grows : Grows old 
     notes = notes_since (subst (λ n. NotesAtMost n client mid new) is notes);
   }
 
-pub reads_none : (client : ℕ) (op : Op) (old new : PieceStore) → Grows old new → new.late ≡ [] → None ≡ read_name op → Reads client op old new
-reads_none client op old new grows settled is = record {
+pub grown_notes : (client : ℕ) (read : Option (List ℕ)) (old new : PieceStore) → Grows old new → IsOpen old.board client → NotesAtMost read client old new
+grown_notes client read old new grows is_open = record {
+  is_open = ap (λ b. is_open_in (place_of b client)) grows.board ∙ is_open;
+  notes = λ at. inl (ap (λ b. noted b client at) grows.board);
+}
+
+pub reads_none : (client : ℕ) (op : Op) (old new : PieceStore) → Grows old new → IsOpen old.board client → new.late ≡ [] → None ≡ read_name op → Reads client op old new
+reads_none client op old new grows is_open settled is = record {
   has = read_since client op old new new grows (reads_nothing client op new is);
   continues = grown_continues old new grows client;
   settled = settled;
-  notes = λ at. inl (ap (λ b. noted b client at) grows.board);
+  notes = grown_notes client (read_name op) old new grows is_open;
 }
 
 -- the committed objects then are what they were

@@ -13,7 +13,7 @@ use Rattle.sea_object.proofs.Lookups.{get-insert_same}
 use Rattle.sea_pieces.specs.declared.piece.Piece.{Piece}
 use Rattle.sea_pieces.specs.Committed.{plain_object}
 use Rattle.sea_pieces.specs.Laying.{after_piece, after_pieces, laid, object_under}
-use Rattle.sea_pieces.proofs.Laying.{after_pieces-append}
+use Rattle.sea_pieces.specs.LayingLaws.{after_pieces-append}
 use Rattle.sea_pieces.proofs.Shared.{get-after_piece}
 use Rattle.sea_pieces.proofs.Versions.{object_laid}
 

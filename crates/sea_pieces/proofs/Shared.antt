@@ -18,7 +18,7 @@ use Rattle.sea_pieces.specs.declared.piece.Piece.{Piece}
 use Rattle.sea_pieces.specs.Laying.{IsServed, SharesRead, after_piece, after_pieces, laid, object_under, op_pieces, pieces_of, read_name}
 use Rattle.sea_pieces.specs.Spelling.{IsPiece}
 use Rattle.sea_pieces.specs.Transaction.{Did, Done}
-use Rattle.sea_pieces.proofs.Laying.{effects_laid}
+use Rattle.sea_pieces.specs.LayingLaws.{effects_laid}
 use Rattle.std.proofs.lemmas.List.Concat.{flat_map-append}
 use Rattle.std.proofs.lemmas.List.{append-nil}
 

@@ -1,9 +1,13 @@
 pub mod Addresses
 pub mod Committed
 pub mod Laying
+pub mod LayingLaws
 pub mod Met
 pub mod Noted
 pub mod Reads
 pub mod Spelling
+pub mod SpellingLaws
 pub mod Store
 pub mod Transaction
+pub mod WorkLaws
+pub mod Works

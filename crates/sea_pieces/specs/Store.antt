@@ -2,11 +2,9 @@
 use Rattle.std.specs.Prelude.{◌≡◌, ◌≢◌, ◌⊎◌, ℕ, List, [], Option, Some, None}
 use Rattle.std.specs.Option.{ForSome}
 use Rattle.std.specs.FinMap as map
-use Rattle.sea_base.specs.declared.place.Commit.{Commit}
 use Rattle.sea_object.specs.declared.op.Op.{Op}
 use Rattle.sea_object.specs.Objects.{ObjectMap}
-use Rattle.sea_sets.specs.Board.{HasNoConflict, OthersStay, noted}
-use Rattle.sea_sets.specs.declared.board.Board.{Board}
+use Rattle.sea_sets.specs.Board.{HasNoConflict, IsOpen, OthersStay, noted}
 use Rattle.sea_sets.specs.declared.notes.Note.{Note}
 use Rattle.sea_pieces.specs.declared.piece.Piece.{Piece}
 use Rattle.sea_pieces.specs.declared.store.PieceStore.{PieceStore}
@@ -86,9 +84,9 @@ pub record IsFirstNote (name : List ℕ) (at : ℕ) (store : PieceStore) (old ne
     current = version_of (versions_of store) name;
   })
 
--- what a client's transaction noted of an address stays, but for one first note
-abbrev pub NotesAtMost : Option (List ℕ) → ℕ → PieceStore → PieceStore → Type 0
-NotesAtMost read client old new = (at : ℕ) →
-    (noted new.board client at ≡ noted old.board client at)
-    ⊎ ((name : List ℕ) × (read ≡ Some name)
-    × IsFirstNote name at new (noted old.board client at) (noted new.board client at))
+-- A client's transaction is open, and what it noted of each address stays, but for one first note.
+pub record NotesAtMost (read : Option (List ℕ)) (client : ℕ) (old new : PieceStore) : Type 0 where
+  pub is_open : IsOpen new.board client
+  pub notes : (at : ℕ) → (noted new.board client at ≡ noted old.board client at)
+      ⊎ ((name : List ℕ) × (read ≡ Some name)
+      × IsFirstNote name at new (noted old.board client at) (noted new.board client at))

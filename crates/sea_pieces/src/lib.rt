@@ -9,6 +9,7 @@ mod piece;
 mod spelling;
 mod store;
 mod transaction;
+mod workspace;
 
 pub use addresses::Addresses;
 pub use committed::Committed;
@@ -16,6 +17,7 @@ pub use piece::{Piece, Pieces};
 pub use spelling::{read_pieces, spell_pieces};
 pub use store::PieceStore;
 pub use transaction::Transaction;
+pub use workspace::Workspace;
 
 #[cfg(test)]
 mod tests;

@@ -1,6 +1,6 @@
 use Rattle.std.proofs.Common.{List, Some, ap, sym, ◌∙◌}
 use Rattle.sea_pieces.specs.declared.piece.Piece.{Piece}
-use Rattle.sea_pieces.proofs.SamePieces.{same_body}
+use Rattle.sea_pieces.specs.SpellingLaws.{same_body}
 use Rattle.sea_pieces.proofs.ReadPieces.{ends, none_read, more_read, nearer, stops}
 use Rattle.sea_pieces.proofs.spelling.read_pieces.Goals as goal
 

@@ -1,7 +1,7 @@
 use Rattle.std.proofs.Common.{◌++◌, take, sym, ap, ◌∙◌, List, ℕ}
 use Rattle.sea_pieces.specs.declared.piece.Piece.{Piece}
 use Rattle.sea_pieces.specs.Spelling.{piece_bytes, spelling}
-use Rattle.sea_pieces.proofs.Lengths.{spelling-more, spelling-nil}
+use Rattle.sea_pieces.specs.SpellingLaws.{spelling-more, spelling-nil}
 use Rattle.sea_pieces.proofs.spelling.spell_pieces.Goals as goal
 
 pub loop-piece-init : goal.loop-piece-init

@@ -1,9 +1,8 @@
-use Rattle.std.proofs.Common.{◌≡◌, ◌+◌, Some, refl, sym, ap, subst, ◌∙◌, take}
-use Rattle.std.specs.FinMap.{get}
+use Rattle.std.proofs.Common.{◌+◌, refl, sym, ap, subst, ◌∙◌, take}
 use Rattle.sea_pieces.specs.Committed.{with_piece, with_pieces}
 use Rattle.sea_pieces.specs.Noted.{AreMarked, AreNoted}
-use Rattle.sea_pieces.proofs.Committing.{take_whole, with_more}
-use Rattle.sea_pieces.proofs.Marked.{marked_none, marked_once, marked_then}
+use Rattle.sea_pieces.proofs.Committing.{with_more}
+use Rattle.sea_pieces.proofs.Marked.{marked_once, marked_then}
 use Rattle.sea_pieces.proofs.Marking.{marked_noted}
 use Rattle.sea_pieces.proofs.Meeting.{met_at}
 use Rattle.sea_pieces.proofs.store.mark.Goals.{in-Some, in_default}

@@ -1,6 +1,6 @@
-use Rattle.std.proofs.Common.{◌≡◌, ℕ, sym, ap, subst, ◌∙◌, arith}
+use Rattle.std.proofs.Common.{sym, ap, subst, ◌∙◌, arith}
 use Rattle.sea_sets.specs.Board.{is_open_in, place_of}
-use Rattle.sea_pieces.specs.Committed.{VersionMap, with_pieces}
+use Rattle.sea_pieces.specs.Committed.{with_pieces}
 use Rattle.sea_pieces.specs.Noted.{AreMarked, AreNoted}
 use Rattle.sea_pieces.proofs.Marked.{commit_keeps, committed_noted, committed_up_to, ended_marked}
 use Rattle.sea_pieces.proofs.Stable.{settled_versions}

@@ -1,18 +1,17 @@
-use Rattle.std.proofs.Common.{◌≡◌, ◌++◌, ◌∷◌, [], OnOk, inl, sym, ap, subst, ◌∙◌}
+use Rattle.std.proofs.Common.{◌≡◌, ◌++◌, ◌∷◌, [], OnOk, sym, ap, subst, ◌∙◌}
 use Rattle.std.specs.Option.{option_copied}
 use Rattle.sea_object.specs.Answer.{item}
-use Rattle.sea_sets.specs.Board.{noted}
 use Rattle.sea_object.specs.declared.reply.Item.{Item}
 use Rattle.sea_pieces.specs.Committed.{objects_in}
 use Rattle.sea_pieces.specs.Laying.{after_pieces}
 use Rattle.sea_pieces.specs.Store.{NotesAtMost}
-use Rattle.sea_pieces.proofs.Reading.{Reads, notes_since, read_versions, reads_name, reads_none, shared_now}
+use Rattle.sea_pieces.proofs.Reading.{Reads, grown_notes, notes_since, read_versions, reads_name, reads_none, shared_now}
 use Rattle.sea_pieces.proofs.Stable.{continues_then, grown_continues, others_kept, stable_on}
 use Rattle.sea_pieces.proofs.store.PieceStore.exec.Goals.{After-exec, in-Some+in_ok-note, in_default}
 use Rattle.sea_pieces.proofs.store.PieceStore.exec.Goals as goal
 
 pub returns-in_err-settle-clause-notes : goal.returns-in_err-settle-clause-notes
-returns-in_err-settle-clause-notes c = λ at. inl (ap (λ b. noted b c.args.client at) c.settle.ensures.grows.board)
+returns-in_err-settle-clause-notes c = grown_notes c.args.client _ c.args.self.now c.settle.new.self c.settle.ensures.grows c.requires.open
 
 pub returns-in_err-settle-clause-continues : goal.returns-in_err-settle-clause-continues
 returns-in_err-settle-clause-continues c = grown_continues c.args.self.now c.settle.new.self c.settle.ensures.grows c.args.client
@@ -45,7 +44,7 @@ reads c =
           (reads_name c.args.client op old mid w.note.new.self c.settle.ensures.grows w.in-Some.name.now w.in_ok-note.ensures.noted w.note.ensures.notes w.note.ensures.settled (sym (ap option_copied w.in-Some.is) ∙ c.name_read.ensures))
       | in_default w ↦
           subst (Reads c.args.client op old) (sym w.self-is)
-          (reads_none c.args.client op old mid c.settle.ensures.grows c.in_ok-settle.ensures.settled (sym (ap option_copied w.in_default.is) ∙ c.name_read.ensures))
+          (reads_none c.args.client op old mid c.settle.ensures.grows c.requires.open c.in_ok-settle.ensures.settled (sym (ap option_copied w.in_default.is) ∙ c.name_read.ensures))
     ]
 
 pub returns-clause-items : goal.returns-clause-items

@@ -8,7 +8,7 @@ use Rattle.sea_pieces.specs.Addresses.{address_of}
 use Rattle.sea_pieces.specs.Committed.{version_of}
 use Rattle.sea_pieces.specs.Noted.{AreNoted}
 use Rattle.sea_pieces.specs.Store.{versions_of}
-use Rattle.sea_pieces.proofs.Noting.{meet_keeps, met_noted, note_stays, noted_most, read_noted, read_others, was_quiet}
+use Rattle.sea_pieces.proofs.Noting.{meet_keeps, met_noted, note_stays, noted_most, read_noted, read_open, read_others, was_quiet}
 use Rattle.sea_pieces.proofs.Stable.{settled_versions}
 use Rattle.sea_pieces.proofs.store.PieceStore.note.Goals as goal
 
@@ -61,20 +61,23 @@ returns-clause-noted c =
     }) c.note_read.ensures.ok
 
 pub returns-clause-notes : goal.returns-clause-notes
-returns-clause-notes c = λ at.
+returns-clause-notes c =
     let old = c.args.self.now in
     let name = c.args.name.now in
     let here : get c.meet.new.self name ≡ Some c.in_ok-at.at.0 = ap (λ m. get m name) c.in_ok-at.ensures.met ∙ get-insert_same old.addresses name c.in_ok-at.at.0 in
     let found : c.version-seen.result ≡ version_of (versions_of old) name = c.version-seen.ensures ∙ ap (λ m. version_of m name) (sym (settled_versions old c.requires.settled)) in
-    elim (noted_most c.note_read.result c.args.client c.in_ok-at.at.0 c.version-seen.result old.board c.note_read.new.self c.note_read.ensures.ok c.note_read.ensures.err at) [
-      | inl same ↦ inl same
-      | inr new ↦ inr (
-        name,
-        refl,
-        record {
-          fresh = new.0;
-          address = here ∙ ap (λ (n : ℕ). Some n) (sym new.1);
-          found = new.2 ∙ ap (λ (v : Option Commit). let n : Note = record { seen = v; current = v } in Some n) found;
-        },
-      )
-    ]
+    record {
+      is_open = read_open c.args.client c.in_ok-at.at.0 c.version-seen.result old.board c.note_read.new.self c.note_read.result c.note_read.ensures.ok c.note_read.ensures.err;
+      notes = λ at. elim (noted_most c.note_read.result c.args.client c.in_ok-at.at.0 c.version-seen.result old.board c.note_read.new.self c.note_read.ensures.ok c.note_read.ensures.err at) [
+        | inl same ↦ inl same
+        | inr new ↦ inr (
+          name,
+          refl,
+          record {
+            fresh = new.0;
+            address = here ∙ ap (λ (n : ℕ). Some n) (sym new.1);
+            found = new.2 ∙ ap (λ (v : Option Commit). let n : Note = record { seen = v; current = v } in Some n) found;
+          },
+        )
+      ];
+    }
