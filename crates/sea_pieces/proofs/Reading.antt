@@ -1,5 +1,5 @@
 -- The reads of an operation, after late pieces were laid.
-use Rattle.std.proofs.Common.{◌≡◌, ℕ, List, [], Option, Some, None, inl, inr, refl, sym, ap, subst, ◌∙◌}
+use Rattle.std.proofs.Common.{◌≡◌, ℕ, List, [], Option, Some, None, inl, inr, sym, ap, subst, ◌∙◌}
 use Rattle.sea_object.specs.declared.op.Op.{Op}
 use Rattle.sea_object.specs.Objects.{ObjectMap}
 use Rattle.sea_sets.specs.Board.{HasNoConflict, IsOpen, is_open_in, noted, place_of}

@@ -1,7 +1,6 @@
 use Rattle.std.proofs.Common.{◌≡◌, ◌++◌, ◌∷◌, [], OnOk, sym, ap, subst, ◌∙◌}
 use Rattle.std.specs.Option.{option_copied}
 use Rattle.sea_object.specs.Answer.{item}
-use Rattle.sea_object.specs.declared.reply.Item.{Item}
 use Rattle.sea_pieces.specs.Committed.{objects_in}
 use Rattle.sea_pieces.specs.Laying.{after_pieces}
 use Rattle.sea_pieces.specs.Store.{NotesAtMost}

@@ -1,4 +1,4 @@
-use Rattle.std.proofs.Common.{◌≤◌, [], length, ap, arith, subst, sym, ◌∙◌}
+use Rattle.std.proofs.Common.{[], ap, arith, subst, sym, ◌∙◌}
 use Rattle.sea_object.specs.declared.reply.Reply.TheVariants as reply
 use Rattle.sea_pieces.specs.Spelling.{spelling}
 use Rattle.sea_pieces.specs.SpellingLaws.{spelling-nil}
