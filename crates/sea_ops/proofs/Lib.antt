@@ -9,12 +9,17 @@ pub mod Keys
 pub mod Made
 pub mod Makes
 pub mod Names
+pub mod Opened
 pub mod Parts
 pub mod Putting
 pub mod Removed
 pub mod Removes
+pub mod Resized
+pub mod Saved
 pub mod Stable
 pub mod Taking
 pub mod TurnFails
 pub mod Turned
 pub mod Turns
+pub mod Writes
+pub mod Written

@@ -59,7 +59,7 @@ one_onode onodes name other x y e f same = let both = sym (ap (map.get onodes) s
 
 module _ (store : Store) (next : ℕ) (onodes : Onodes) (s : Stands store next onodes) where
   -- a data block stands at no root
-  no_root : (name : List ℕ) (onode : Onode) (at : ℕ) → map.get onodes name ≡ Some onode → onode.base.0 + 2 ≤ at → at < onode.base.0 + 4098 → IsRoot onodes at → ⊥
+  pub no_root : (name : List ℕ) (onode : Onode) (at : ℕ) → map.get onodes name ≡ Some onode → onode.base.0 + 2 ≤ at → at < onode.base.0 + 4098 → IsRoot onodes at → ⊥
   no_root name onode at e from below (inl one) = omega (arith, one, (s.ranges name onode e).0, from)
   no_root name onode at e from below (inr (other, x, f, inl base)) =
       let same = one_onode onodes name other onode x e f (s.apart name other onode x at e f (omega (arith, from), below) (omega (arith, base), omega (arith, base))) in
@@ -78,6 +78,10 @@ module _ (store : Store) (next : ℕ) (onodes : Onodes) (s : Stands store next o
       let same = one_onode onodes name other onode x e f (s.apart name other onode x (onode.base.0 + 2 + i) e f (omega arith, omega (arith, few)) (omega (arith, is), omega (arith, is, below, limit))) in
       omega (arith, is, below, past, ap (λ (o : Onode). o.base.0) same, ap (λ (o : Onode). o.size) same)
 
+  -- no data block stands past an object's end
+  pub none_past : (name : List ℕ) (onode : Onode) (i : ℕ) → map.get onodes name ≡ Some onode → i < 4096 → onode.size ≤ 4096 * i → store (onode.base.0 + 2 + i) ≡ None
+  none_past name onode i e few past = elim (either (store (onode.base.0 + 2 + i))) [ inl empty ↦ empty | inr there ↦ absurd (unused name onode i e few past (s.shared.filled (onode.base.0 + 2 + i) there)) ]
+
   -- its objects are in order
   pub order_of : HasOnodes store onodes → ((name : List ℕ) (onode : Onode) → map.get onodes name ≡ Some onode → (onode.attrs ≤ 64) × (onode.keys ≤ 10000)) → AreInOrder store next onodes
   order_of tree counts = record {
@@ -91,7 +95,7 @@ module _ (store : Store) (next : ℕ) (onodes : Onodes) (s : Stands store next o
           size = r.2;
           attrs = k.0;
           keys = k.1;
-          past = λ i few past. elim (either (store (onode.base.0 + 2 + i))) [ inl empty ↦ empty | inr there ↦ absurd (unused name onode i e few past (s.shared.filled (onode.base.0 + 2 + i) there)) ];
+          past = λ i few past. none_past name onode i e few past;
           alone = λ at within node. omega (arith, s.shared.alone 1 at (inl refl) node (name, onode, e, within), within.0, r.0);
         };
     apart = s.apart;
@@ -181,16 +185,16 @@ module _ (store : Store) (next : ℕ) (onodes : Onodes) (s : Stands store next o
     }
 
 -- without an object there is no onode
-neither : (store : Store) (onode : Option Onode) (object : Option ObjectValue) → AreOfOne store onode object → object ≡ None → onode ≡ None
+pub neither : (store : Store) (onode : Option Onode) (object : Option ObjectValue) → AreOfOne store onode object → object ≡ None → onode ≡ None
 neither store None object is e = refl
 neither store (Some x) None is e = absurd is
 neither store (Some x) (Some o) is e = absurd (cc)
 
-no_bytes : (store : Store) (base size : ℕ) → size ≡ 0 → [] ≡ bytes_of store base size
+pub no_bytes : (store : Store) (base size : ℕ) → size ≡ 0 → [] ≡ bytes_of store base size
 unfolding bytes_from
 no_bytes store base size e = ap (bytes_of store base) (sym e)
 
-none_counted : map.len (map.empty {K = List ℕ} {X = List ℕ} {R = key_order}) ≡ 0
+pub none_counted : map.len (map.empty {K = List ℕ} {X = List ℕ} {R = key_order}) ≡ 0
 none_counted = len-empty key_order (List ℕ)
 
 -- ---- the onode of the new object is saved

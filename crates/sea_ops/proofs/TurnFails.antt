@@ -32,7 +32,7 @@ use Rattle.sea_ops.proofs.Asked.{formed_as}
 use Rattle.sea_ops.proofs.Makes.{meets_since}
 
 -- a number between two others is one of their range
-in_range : (at from to : ℕ) → from ≤ at → at < to → Contains (range_with_len from (to - from)) at
+pub in_range : (at from to : ℕ) → from ≤ at → at < to → Contains (range_with_len from (to - from)) at
 in_range at from to low high = (
   at - from,
   omega (arith, length-range_with_len from (to - from)),

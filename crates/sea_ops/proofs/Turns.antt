@@ -1,7 +1,7 @@
 -- A tree of an object is changed by a space's calls: its onode is found, the tree is changed, then the onode is saved with another count.
 use Rattle.std.proofs.Common.{◌≡◌, ◌⊎◌, inl, inr, ℕ, ◌<◌, ◌≤◌, ◌^◌, max, true, List, Option, Some, None, refl, sym, ap, subst, ◌∙◌, arith}
 use Rattle.std.specs.FinMap as map
-use Rattle.sea_base.specs.Space.{Store, Seen, Agrees, OnlyRead, laid}
+use Rattle.sea_base.specs.Space.{Store, Seen, OnlyRead, laid}
 use Rattle.sea_node.specs.Entries.{Values}
 use Rattle.sea_object.specs.declared.onode.Onode.{Onode}
 use Rattle.sea_object.specs.declared.op.Op.{Op}
@@ -14,12 +14,11 @@ use Rattle.sea_omap.specs.Calls as omap
 use Rattle.sea_onode.specs.Calls as onode
 use Rattle.sea_onode.specs.Calls.{NotesMore}
 use Rattle.sea_onode.specs.Order.{IsInOrder}
-use Rattle.sea_tree.specs.Content.{HasContent}
 use Rattle.sea_tree.specs.Calls as tree
 use Rattle.sea_tree.specs.Changing.{Changed}
 use Rattle.sea_tree.proofs.Apart.{IsNodeOf-filled}
 use Rattle.sea_tree.proofs.Walks.{one_store}
-use Rattle.sea_ops.specs.WellFormed.{IsObjectOf, AreOfOne, IsOwnRoot, IsRoot}
+use Rattle.sea_ops.specs.WellFormed.{IsObjectOf, AreOfOne, IsOwnRoot}
 use Rattle.sea_ops.specs.Calls.{Meets, IsDone, Does, Refuses}
 use Rattle.sea_ops.proofs.Alike.{HaveSame}
 use Rattle.sea_ops.proofs.Asked.{formed_as}
@@ -201,19 +200,22 @@ turns_refused op why part told turn old a b first name x finds noted low turns r
 }
 
 -- a name without an object
-pub no_object : (old new : Seen) (first : OnlyRead old new) (op : Op) (name : List ℕ) → onode.Finds name old new None → ((objects : ObjectMap) → map.get objects name ≡ None → model.refusal op objects ≡ Some NoObject) → Refuses op NoObject old new
-no_object old new first op name finds refused = record {
-  notes = first.noted;
-  rises = omega (arith, first.next);
-  refuses = λ store next objects m.
-      let here = finds.onode store m.formed.onodes (record {
-        agrees = m.agrees;
-        onodes = m.formed.order.tree;
-        fresh = λ at from below. absurd (omega (arith, from, below, first.next));
-      }) in
-      refused objects (none (laid old store) (map.get objects name) (subst (λ (z : Option Onode). AreOfOne (laid old store) z (map.get objects name)) (sym here) (m.formed.each name)));
-}
+pub absent_since : (old a c : Seen) (first : OnlyRead old a) (name : List ℕ) → onode.Finds name old a None → NotesMore a c → (store : Store) (next : ℕ) (objects : ObjectMap) → Meets store next objects old c → map.get objects name ≡ None
+absent_since old a c first name finds notes store next objects m =
+    let here = finds.onode store m.formed.onodes (record {
+      agrees = λ at f e. m.agrees at f (notes at f e);
+      onodes = m.formed.order.tree;
+      fresh = λ at from below. absurd (omega (arith, from, below, first.next));
+    }) in
+    none (laid old store) (map.get objects name) (subst (λ (z : Option Onode). AreOfOne (laid old store) z (map.get objects name)) (sym here) (m.formed.each name))
   where
     none : (store : Store) (object : Option ObjectValue) → AreOfOne store None object → object ≡ None
     none store None is = refl
     none store (Some o) is = absurd is
+
+pub no_object : (old new : Seen) (first : OnlyRead old new) (op : Op) (name : List ℕ) → onode.Finds name old new None → ((objects : ObjectMap) → map.get objects name ≡ None → model.refusal op objects ≡ Some NoObject) → Refuses op NoObject old new
+no_object old new first op name finds refused = record {
+  notes = first.noted;
+  rises = omega (arith, first.next);
+  refuses = λ store next objects m. refused objects (absent_since old new new first name finds (λ at f e. e) store next objects m);
+}

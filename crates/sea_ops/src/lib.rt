@@ -9,6 +9,7 @@ mod law;
 mod making;
 mod omap;
 mod removing;
+mod writing;
 
 pub use asking::{get_attr, get_attrs, list, omap_get, omap_list, read, stat};
 pub use attributes::{remove_attr, set_attr};
@@ -18,3 +19,4 @@ pub use law::transaction_laws;
 pub use making::touch;
 pub use omap::{omap_remove_keys, omap_set_keys};
 pub use removing::remove;
+pub use writing::truncate;
