@@ -12,7 +12,7 @@ use std::alloc::Global;
 
 /// Whether each two of some numbers are so far from each other.
 pub(crate) fn are_far(numbers: &[u64], by: u64) -> bool
-    ensures { IsTrue result → AreFar by numbers.now }
+    ensures { IsTrue result ↔ AreFar by numbers.now }
 {
     match numbers {
         [] => true,
@@ -44,14 +44,14 @@ fn is_data(onode: &Onode, at: u64) -> bool
 
 // Whether an address is among those of an object only if it is this root.
 fn is_alone(root: u64, at: u64, held: &[Held]) -> bool
-    ensures { IsTrue result → IsAlone held.now root at }
+    ensures { IsTrue result ↔ IsAlone held.now root at }
 {
     at == root || held.iter().all(|one| !is_in_range(&one.onode, at))
 }
 
 /// Whether no node of a tree but its root is among the addresses of an object.
 pub(crate) fn are_alone(root: u64, nodes: &[u64], held: &[Held]) -> bool
-    ensures { IsTrue result → AreAlone held.now root nodes.now }
+    ensures { IsTrue result ↔ AreAlone held.now root nodes.now }
 {
     nodes.iter().all(|at| is_alone(root, *at, held))
 }
@@ -85,14 +85,14 @@ pub(crate) fn has_use(at: u64, nodes: &[u64], held: &[Held]) -> bool
 
 /// Whether a filled address is no data block behind the end of an object.
 pub(crate) fn ends_before(at: u64, held: &[Held]) -> bool
-    ensures { IsTrue result → All (λ one. EndsBefore one.onode at) held.now }
+    ensures { IsTrue result ↔ All (λ one. EndsBefore one.onode at) held.now }
 {
     held.iter().all(|one| ends_one(&one.onode, at))
 }
 
 // The same of one object.
 fn ends_one(onode: &Onode, at: u64) -> bool
-    ensures { IsTrue result → EndsBefore onode.now at }
+    ensures { IsTrue result ↔ EndsBefore onode.now at }
 {
     if !is_in_range(onode, at) || at - onode.base.0 < 2 {
         return true;

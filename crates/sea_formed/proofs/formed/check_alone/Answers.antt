@@ -11,8 +11,8 @@ loop-one-preserved c =
     let held = c.args.held.now in
     let one = c.one-item.result in
     let within : c.loop-one.one-index < length c.args.held.now = omega arith in
-    let first = subst (λ (ns : List ℕ). AreAlone held one.onode.base.0 ns) c.deref.ensures.value (c.are_alone-in-loop-one.ensures c.if-not-are_alone-2.false) in
-    let second = subst (λ (ns : List ℕ). AreAlone held (one.onode.base.0 + 1) ns) c.deref-in-loop-one.ensures.value (c.are_alone-in-loop-one-2.ensures c.if-not-are_alone-3.false) in
+    let first = subst (λ (ns : List ℕ). AreAlone held one.onode.base.0 ns) c.deref.ensures.value (c.are_alone-in-loop-one.ensures.0 c.if-not-are_alone-2.false) in
+    let second = subst (λ (ns : List ℕ). AreAlone held (one.onode.base.0 + 1) ns) c.deref-in-loop-one.ensures.value (c.are_alone-in-loop-one-2.ensures.0 c.if-not-are_alone-3.false) in
     record {
       attributes = All-more (λ (h : Held). AreAlone held h.onode.base.0 h.attributes.nodes.items) held c.loop-one.one-index one within c.loop-one.invariant.attributes (subst (λ (h : Held). AreAlone held h.onode.base.0 h.attributes.nodes.items) c.one-item.is first);
       omaps = All-more (λ (h : Held). AreAlone held (h.onode.base.0 + 1) h.omap.nodes.items) held c.loop-one.one-index one within c.loop-one.invariant.omaps (subst (λ (h : Held). AreAlone held (h.onode.base.0 + 1) h.omap.nodes.items) c.one-item.is second);

@@ -17,7 +17,7 @@ loop-at-preserved c =
     record {
       used = All-more (HasUse all held) filled index 0 inside c.loop-at.invariant.used (subst (λ (ns : List ℕ). HasUse ns held at) nodes (c.has_use.ensures c.if-not-has_use.false));
       within = All-more (λ at. (1 ≤ at) × (at < c.args.next)) filled index 0 inside c.loop-at.invariant.within (omega arith, omega arith);
-      ends = All-more (λ at. All (λ one. EndsBefore one.onode at) held) filled index 0 inside c.loop-at.invariant.ends (c.ends_before.ensures c.if-not-ends_before.false);
+      ends = All-more (λ at. All (λ one. EndsBefore one.onode at) held) filled index 0 inside c.loop-at.invariant.ends (c.ends_before.ensures.0 c.if-not-ends_before.false);
     }
 
 pub returns-clause-used : goal.returns-clause-used
