@@ -1,21 +1,21 @@
 -- The calls on an object's data are changes of its bytes.
-use Rattle.std.proofs.Common.{◌≡◌, ◌⊎◌, inl, inr, ℕ, ◌-◌, ◌*◌, ◌<◌, ◌≤◌, List, Option, Some, sym, ap, ◌∙◌, arith}
+use Rattle.std.proofs.Common.{◌≡◌, ◌⊎◌, inl, inr, ℕ, ◌-◌, ◌*◌, ◌<◌, ◌≤◌, List, Option, Some, sym, ap, ◌∙◌, arith, ◌+◌, max, length, replicate, None}
 use Rattle.std.specs.FinMap as map
 use Rattle.sea_base.specs.Space.{Store, Seen, laid}
 use Rattle.sea_data.specs.Bytes.{bytes_of}
 use Rattle.sea_data.specs.Calls as blocks
-use Rattle.sea_data.specs.Ranges.{ChangesBlocks, BeginsBetween, HoldsOldEnd}
+use Rattle.sea_data.specs.Ranges.{ChangesBlocks, BeginsBetween, HoldsOldEnd, IsChangedFor}
 use Rattle.sea_data.specs.Steps.{ClearsOldEnd}
 use Rattle.sea_data.specs.Steps.Edit.{Clear}
 use Rattle.sea_data.specs.Bytes.{block_address}
 use Rattle.sea_data.proofs.Parts.{does_grows}
 use Rattle.sea_data.proofs.Taking.{leaves}
 use Rattle.sea_object.specs.declared.onode.Onode.{Onode}
-use Rattle.sea_object.specs.declared.op.Op.TheVariants.{Truncate}
+use Rattle.sea_object.specs.declared.op.Op.TheVariants.{Truncate, Write, Zero}
 use Rattle.sea_object.specs.declared.reply.Item.TheVariants.{Unit as Nothing}
 use Rattle.sea_object.specs.Answer as model
-use Rattle.sea_object.specs.Answer.{resized}
-use Rattle.sea_object.specs.Objects.{ObjectValue, ObjectMap}
+use Rattle.sea_object.specs.Answer.{resized, written}
+use Rattle.sea_object.specs.Objects.{ObjectValue, ObjectMap, empty_object}
 use Rattle.sea_onode.specs.Calls.{NotesMore}
 use Rattle.sea_ops.proofs.Writes.{Writes, IsResize}
 
@@ -52,4 +52,48 @@ truncates name size objects o has = record {
   allowed = ap (model.refusal_at (Truncate name size)) has;
   answers = sym (ap (model.item_at (Truncate name size)) has);
   effect = ap (λ (z : Option ObjectValue). model.put_object (Some name) (model.object_after (Truncate name size) z) objects) has;
+}
+
+-- ---- a write
+
+-- the blocks that a range within the limit has to do with are among the first 4,096
+changed_few : (size from to i : ℕ) → to ≤ 16777216 → IsChangedFor size from to i → i < 4096
+changed_few size from to i limit (inl touches) = omega (arith, touches.1, limit)
+changed_few size from to i limit (inr holds) = omega (arith, holds.0, holds.1, limit)
+
+pub written_writes : (x : Onode) (offset : ℕ) (bytes : List ℕ) (to : ℕ) (a b : Seen) → to ≤ 16777216
+    → ((store : Store) (next : ℕ) → blocks.Meets store next x a b → blocks.Becomes store next x (max x.size to) (written offset bytes (bytes_of (laid a store) x.base.0 x.size)) a b)
+    → blocks.WriteForm x offset bytes a b → blocks.WriteFootprint x offset to a b → b.next ≡ a.next → Writes x (max x.size to) (written offset bytes) a b
+written_writes x offset bytes to a b limit becomes form footprint next = record {
+  becomes = becomes;
+  changes = λ small. more_blocks x.base.0 (IsChangedFor x.size offset to) (λ i. i < 4096) a b (λ i touched. changed_few x.size offset to i limit touched) footprint.changes;
+  notes = λ at found e. does_grows _ form.between b form.written at found (cleared_notes x.base.0 x.size offset (offset + length bytes) a form.between form.cleared at found e);
+  next = next;
+}
+
+-- An object is made where there is none, and then its bytes are changed.
+pub writes_bytes : (name : List ℕ) (offset : ℕ) (bytes : List ℕ) (objects : ObjectMap) (o : ObjectValue) → (map.get objects name ≡ Some o) ⊎ ((map.get objects name ≡ None) × (o ≡ empty_object)) → IsResize (Write name offset bytes) Nothing name (written offset bytes) objects o
+writes_bytes name offset bytes objects o (inl has) = record {
+  allowed = ap (model.refusal_at (Write name offset bytes)) has;
+  answers = sym (ap (model.item_at (Write name offset bytes)) has);
+  effect = ap (λ (z : Option ObjectValue). model.put_object (Some name) (model.object_after (Write name offset bytes) z) objects) has;
+}
+writes_bytes name offset bytes objects o (inr none) = record {
+  allowed = ap (model.refusal_at (Write name offset bytes)) none.0;
+  answers = sym (ap (model.item_at (Write name offset bytes)) none.0);
+  effect = ap (λ (z : Option ObjectValue). model.put_object (Some name) (model.object_after (Write name offset bytes) z) objects) none.0
+      ∙ ap (λ (w : ObjectValue). map.insert objects name (model.with_bytes (written offset bytes w.bytes) w)) (sym none.1);
+}
+
+pub zeros_range : (name : List ℕ) (offset count : ℕ) (objects : ObjectMap) (o : ObjectValue) → (map.get objects name ≡ Some o) ⊎ ((map.get objects name ≡ None) × (o ≡ empty_object)) → IsResize (Zero name offset count) Nothing name (written offset (replicate count 0)) objects o
+zeros_range name offset count objects o (inl has) = record {
+  allowed = ap (model.refusal_at (Zero name offset count)) has;
+  answers = sym (ap (model.item_at (Zero name offset count)) has);
+  effect = ap (λ (z : Option ObjectValue). model.put_object (Some name) (model.object_after (Zero name offset count) z) objects) has;
+}
+zeros_range name offset count objects o (inr none) = record {
+  allowed = ap (model.refusal_at (Zero name offset count)) none.0;
+  answers = sym (ap (model.item_at (Zero name offset count)) none.0);
+  effect = ap (λ (z : Option ObjectValue). model.put_object (Some name) (model.object_after (Zero name offset count) z) objects) none.0
+      ∙ ap (λ (w : ObjectValue). map.insert objects name (model.with_bytes (written offset (replicate count 0) w.bytes) w)) (sym none.1);
 }

@@ -19,4 +19,4 @@ pub use law::transaction_laws;
 pub use making::touch;
 pub use omap::{omap_remove_keys, omap_set_keys};
 pub use removing::remove;
-pub use writing::truncate;
+pub use writing::{truncate, write, zero};
