@@ -16,8 +16,8 @@ use Rattle.sea_pieces.specs.Laying.{op_pieces, pieces_of}
 pub after_pieces-append : (front back : List Piece) (objects : ObjectMap)
     → after_pieces (front ++ back) objects ≡ after_pieces back (after_pieces front objects)
 after_pieces-append [] back objects = refl
-after_pieces-append (piece ∷ front) back objects = after_pieces-append front back
-    (after_piece piece objects)
+after_pieces-append (piece ∷ front) back objects =
+    after_pieces-append front back (after_piece piece objects)
 
 pub written_laid : (offset : ℕ) (bytes old : List ℕ) → 1 ≤ length bytes
     → laid offset bytes old ≡ written offset bytes old
@@ -31,10 +31,11 @@ made name None objects = refl
 made name (Some object) objects = refl
 
 wrote : (name : List ℕ) (offset : ℕ) (bytes : List ℕ) (found : Option ObjectValue)
-    (objects : ObjectMap) → with_object objects name (object_after
-    (Write name offset bytes) found)
-    ≡ map.insert objects name (with_bytes (written offset bytes
-    (unwrap_or found empty_object).bytes) (unwrap_or found empty_object))
+    (objects : ObjectMap)
+    → with_object objects name (object_after (Write name offset bytes) found)
+    ≡ map.insert objects name
+    (with_bytes (written offset bytes (unwrap_or found empty_object).bytes)
+    (unwrap_or found empty_object))
 wrote name offset bytes None objects = refl
 wrote name offset bytes (Some object) objects = refl
 

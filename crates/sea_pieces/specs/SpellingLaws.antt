@@ -33,8 +33,8 @@ unfolding spelling
 spelling-more pieces i p below =
     ap (flat_map piece_bytes) (take_more pieces i p below)
     ∙ flat_map-append piece_bytes (take i pieces) (get_or pieces i p ∷ [])
-    ∙ ap (λ (r : List ℕ). flat_map piece_bytes (take i pieces)
-    ++ r) (append-nil (piece_bytes (get_or pieces i p)))
+    ∙ ap (λ (r : List ℕ). flat_map piece_bytes (take i pieces) ++ r)
+    (append-nil (piece_bytes (get_or pieces i p)))
 
 pub spelling-cons : (p : Piece) (pieces : List Piece)
     → spelling (p ∷ pieces) ≡ piece_bytes p ++ spelling pieces
@@ -52,8 +52,9 @@ spelling-nil = refl
 
 -- a piece's fields, one behind the other
 pub piece_parts : (p : Piece) (rest : List ℕ)
-    → piece_bytes p ++ rest ≡ big_endian 1 (length p.name) ++ (p.name ++ (big_endian 4 p.offset
-    ++ (big_endian 4 (length p.bytes) ++ (p.bytes ++ rest))))
+    → piece_bytes p ++ rest
+    ≡ big_endian 1 (length p.name) ++ (p.name
+    ++ (big_endian 4 p.offset ++ (big_endian 4 (length p.bytes) ++ (p.bytes ++ rest))))
 unfolding piece_bytes
 piece_parts p rest = simp append_assoc
 
@@ -66,11 +67,13 @@ same_piece p q rs ss is_p is_q e =
     let f3 = same_field 4 p.offset q.offset _ _ (omega arith) (omega arith) f2.1 in
     let f4 = same_field 4 (length p.bytes) (length q.bytes) _ _ (omega arith) (omega arith) f3.1 in
     let f5 = same_parts p.bytes q.bytes rs ss f4.0 f4.1 in
-    let made : List ℕ → ℕ → List ℕ → Piece = λ n o b. record { name = n; offset = o; bytes = b } in (
-      ap (λ (n : List ℕ). made n p.offset p.bytes) f2.0
-          ∙ ap (λ (o : ℕ). made q.name o p.bytes) f3.0 ∙ ap (made q.name q.offset) f5.0,
-      f5.1,
-    )
+    let made : List ℕ → ℕ → List ℕ → Piece =
+    λ n o b. record { name = n; offset = o; bytes = b } in
+    let same : p ≡ q =
+    ap (λ (n : List ℕ). made n p.offset p.bytes) f2.0
+    ∙ ap (λ (o : ℕ). made q.name o p.bytes) f3.0
+    ∙ ap (made q.name q.offset) f5.0 in
+    (same, f5.1)
 
 -- pieces and a rest that are pieces: these begin with those, and the rest is the others
 pub same_front : (ps qs : List Piece) (rest : List ℕ) → AllByRecursion IsPiece ps

@@ -17,7 +17,8 @@ nothing_done = record { items = []; pieces = [] }
 
 -- what a client's transaction has done, of those of clients from 1 on
 abbrev pub done_by : List Done → ℕ → Done
-done_by transactions client = unwrap_or (slice_get (nothing_done ∷ transactions) client) nothing_done
+done_by transactions client =
+    unwrap_or (slice_get (nothing_done ∷ transactions) client) nothing_done
 
 abbrev pub work_of : Workspace → ℕ → Done
 work_of space client = done_by space.transactions.items client

@@ -6,8 +6,8 @@ mod calls;
 use crate::{PieceStore, Transaction};
 use std::alloc::Global;
 
-/// The transactions of clients on the objects that pieces make. What a transaction has done stays
-/// here when it is over, until the client's next one begins.
+/// The transactions of clients on the objects that pieces make. Each client has a place here for
+/// what its transaction has done, also while none is open.
 #[derive(Debug, Drop)]
 pub struct Workspace {
     alloc: Global,
