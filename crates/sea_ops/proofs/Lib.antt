@@ -2,6 +2,7 @@ pub mod Alike
 pub mod Asked
 pub mod Emptied
 pub mod Examples
+mod Failing
 pub mod Frames
 pub mod KeyRange
 pub mod KeyRanges

@@ -1,6 +1,8 @@
 //! The faults of a trial.
 
 use sea_base::{NameFault, NoMemory, SpaceFault};
+use sea_object::Why;
+use sea_ops::OpFault;
 use sea_tree::TreeFault;
 use std::alloc::{AllocError, AllocFailed};
 use std::io;
@@ -11,8 +13,8 @@ const NO_MEMORY: TrialFault = TrialFault::Tree(TreeFault::Space(SpaceFault::NoMe
 /// Why a trial was not done.
 #[derive(Clone, Copy, Debug, PartialEq, Eq, Error)]
 pub enum TrialFault {
-    /// The words are not two numbers.
-    #[error("usage: sea_ops_trial SETS GETS")]
+    /// The words are not three numbers.
+    #[error("usage: sea_ops_trial SETS GETS WRITES")]
     Usage,
     /// A call on the store failed, or memory ran out.
     #[error("{0}")]
@@ -23,12 +25,12 @@ pub enum TrialFault {
     /// An operation is beyond its limits.
     #[error("beyond limits")]
     BeyondLimits,
-    /// There is no call for an operation of this kind.
-    #[error("not built")]
-    NotBuilt,
-    /// An operation was refused that the trial needs.
+    /// An operation was refused, for this reason.
     #[error("refused")]
-    Refused,
+    Refused(Why),
+    /// An operation answered what it never answers.
+    #[error("wrong answer")]
+    WrongAnswer,
     /// There were as many operations as a trial may do.
     #[error("too many operations")]
     TooMany,
@@ -50,6 +52,15 @@ impl TrialFault {
 impl From<TreeFault> for TrialFault {
     fn from(fault: TreeFault) -> Self {
         TrialFault::Tree(fault)
+    }
+}
+
+impl From<OpFault> for TrialFault {
+    fn from(fault: OpFault) -> Self {
+        match fault {
+            OpFault::Refused(why) => TrialFault::Refused(why),
+            OpFault::Tree(fault) => TrialFault::Tree(fault),
+        }
     }
 }
 

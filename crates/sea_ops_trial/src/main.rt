@@ -1,8 +1,7 @@
-//! A trial of operations on objects: it puts keys into the omaps of objects in memory, and gets some of
-//! them.
+//! A trial of operations on objects: it puts keys into the omaps of objects in memory, gets some of
+//! them, and writes over bytes.
 #![tactic(auto)]
 
-mod exec;
 mod fault;
 mod store;
 mod trial;
@@ -33,10 +32,10 @@ fn run(rt: &HostRuntime) -> Result<(), TrialFault> {
     Ok(())
 }
 
-// The two numbers behind the program's name.
+// The three numbers behind the program's name.
 fn counts(rt: &HostRuntime) -> Result<Calls, TrialFault> {
     let mut words = env::args(rt)?.skip(1);
-    let (Some(sets), Some(gets)) = (words.next(), words.next()) else {
+    let (Some(sets), Some(gets), Some(writes)) = (words.next(), words.next(), words.next()) else {
         return Err(TrialFault::Usage);
     };
     if words.next().is_some() {
@@ -45,6 +44,7 @@ fn counts(rt: &HostRuntime) -> Result<Calls, TrialFault> {
     Ok(Calls {
         sets: number(sets.as_str())?,
         gets: number(gets.as_str())?,
+        writes: number(writes.as_str())?,
     })
 }
 

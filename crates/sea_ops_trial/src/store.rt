@@ -1,12 +1,12 @@
 //! A store of objects in a space.
 ghost use Rattle.std.specs.Prelude.{◌+◌, ◌*◌, ◌^◌, ◌≤◌, IsTrue};
 
-use crate::exec::exec;
 use crate::fault::TrialFault;
 use sea_base::Space;
 #[cfg(test)]
 use sea_base::{Block, Laddr};
-use sea_object::{Item, Op, Why};
+use sea_object::{Item, Op};
+use sea_ops::exec;
 use std::alloc::Global;
 
 /// A store of objects in a space, which nothing else shares.
@@ -32,13 +32,13 @@ impl<S: Space + Drop> ObjectStore<S> {
         }
     }
 
-    /// Does an operation: answers its item, or why it is refused.
-    pub fn exec(&mut self, op: &Op) -> Result<Result<Item, Why>, TrialFault> {
+    /// Does an operation.
+    pub fn exec(&mut self, op: &Op) -> Result<Item, TrialFault> {
         if !op.has_good_range() || !op.has_good_values() || op.key_weight() > 32 {
             return Err(TrialFault::BeyondLimits);
         }
         self.done = self.done.checked_add(1).ok_or(TrialFault::TooMany)?;
-        exec(self.alloc, &mut self.space, op)
+        Ok(exec(self.alloc, &mut self.space, op)?)
     }
 
     /// The space.

@@ -16,6 +16,12 @@ const OBJECT_KEYS: u32 = 10_000;
 /// The bytes of a key's value.
 const VALUE_BYTES: usize = 100;
 
+/// The bytes of an object that is written over.
+const FILLED_BYTES: u32 = 65_536;
+
+/// The bytes of a small write.
+const WRITTEN_BYTES: u32 = 64;
+
 /// How many operations a trial does.
 #[derive(Clone, Copy, Debug, PartialEq, Eq)]
 pub struct Calls {
@@ -23,6 +29,8 @@ pub struct Calls {
     pub sets: u32,
     /// The keys looked for.
     pub gets: u32,
+    /// The writes of 64 bytes over bytes that stand.
+    pub writes: u32,
 }
 
 /// What a trial counted.
@@ -34,8 +42,9 @@ pub struct Report {
 
 impl fmt::Display for Report {
     fn fmt<W: fmt::Write>(&self, f: &mut fmt::Formatter<W>) -> fmt::Result {
-        let Calls { sets, gets } = self.calls;
-        write!(f, "sets {sets} gets {gets} found {}", self.found)
+        let Calls { sets, gets, writes } = self.calls;
+        let found = self.found;
+        write!(f, "sets {sets} gets {gets} found {found} writes {writes}")
     }
 }
 
@@ -45,19 +54,18 @@ pub fn run_trial(alloc: Global, calls: Calls) -> Result<Report, TrialFault> {
     make_objects(alloc, &mut store)?;
     set_keys(alloc, &mut store, calls.sets)?;
     let found = count_found(alloc, &mut store, calls)?;
+    if calls.writes > 0 {
+        fill_objects(alloc, &mut store)?;
+        write_over(alloc, &mut store, calls.writes)?;
+    }
     Ok(Report { calls, found })
-}
-
-// Does an operation that is not refused.
-fn done(store: &mut ObjectStore<MapSpace>, op: &Op) -> Result<Item, TrialFault> {
-    store.exec(op)?.map_err(|_| TrialFault::Refused)
 }
 
 // Makes the objects.
 fn make_objects(alloc: Global, store: &mut ObjectStore<MapSpace>) -> Result<(), TrialFault> {
     for number in 0..OBJECTS {
         let name = name_of(alloc, number)?;
-        done(store, &Op::Touch { name })?;
+        store.exec(&Op::Touch { name })?;
     }
     Ok(())
 }
@@ -76,7 +84,7 @@ fn set_keys(
             name: name_of(alloc, number % OBJECTS)?,
             pairs,
         };
-        done(store, &set)?;
+        store.exec(&set)?;
     }
     Ok(())
 }
@@ -94,11 +102,43 @@ fn count_found(
             name: name_of(alloc, number % OBJECTS)?,
             key: key_of(alloc, number)?,
         };
-        if done(store, &get)? != Item::Absent {
+        if store.exec(&get)? != Item::Absent {
             found = found.saturating_add(1);
         }
     }
     Ok(found)
+}
+
+// Writes bytes into each object.
+fn fill_objects(alloc: Global, store: &mut ObjectStore<MapSpace>) -> Result<(), TrialFault> {
+    let bytes = Data::from_vec(vec![in alloc; b'f'; FILLED_BYTES as usize]?)?;
+    for number in 0..OBJECTS {
+        let fill = Op::Write {
+            name: name_of(alloc, number)?,
+            offset: 0,
+            bytes: bytes.copy()?,
+        };
+        store.exec(&fill)?;
+    }
+    Ok(())
+}
+
+// Writes a few bytes over those of the objects, again and again, at places far apart.
+fn write_over(
+    alloc: Global,
+    store: &mut ObjectStore<MapSpace>,
+    count: u32,
+) -> Result<(), TrialFault> {
+    let bytes = Data::from_vec(vec![in alloc; b'w'; WRITTEN_BYTES as usize]?)?;
+    for number in 0..count {
+        let over = Op::Write {
+            name: name_of(alloc, number % OBJECTS)?,
+            offset: scattered(number) % (FILLED_BYTES - WRITTEN_BYTES),
+            bytes: bytes.copy()?,
+        };
+        store.exec(&over)?;
+    }
+    Ok(())
 }
 
 // Numbers that follow one another are far apart.

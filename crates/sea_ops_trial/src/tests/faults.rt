@@ -13,15 +13,21 @@ const FAILED: TrialFault = TrialFault::Tree(TreeFault::Space(SpaceFault::DeviceF
 
 // What stands before, and then each operation alone.
 const BEFORE: &str =
-    "1 touch a ; touch b ; setattr a k x01 ; setattr a m x02 ; omap_setkeys a o x03 q x04\n";
+    "1 write a 0 x4142 ; touch b ; setattr a k x01 ; setattr a m x02 ; omap_setkeys a o x03 q x04\n";
 
 const OPERATIONS: &[&str] = &[
     "touch c",
+    "write a 1 x43",
+    "write c 4095 x4142",
+    "zero a 1 4096",
+    "truncate a 1",
+    "remove a",
     "setattr a j x",
     "rmattr a k",
     "rmattrs a",
     "omap_setkeys a k x01 l x02",
     "omap_rmkeys a o p",
+    "omap_rmkeyrange a o z 9",
     "omap_clear a",
     "read a 0 9",
     "stat a",

@@ -9,12 +9,22 @@ use sea_onode::read_onode;
 use std::alloc::Global;
 use std::process::Abort;
 
-const BEFORE: &str = "1 touch a ; touch b ; setattr b k x01 ; setattr a k x02\n";
+const BEFORE: &str =
+    "1 write a 0 x4142 ; write b 0 x43 ; setattr b k x01 ; setattr a k x02 ; omap_setkeys a o x03\n";
 
 const OPERATIONS: &[&str] = &[
     "touch a",
+    "write a 1 x43",
+    "zero a 1 4097",
+    "truncate a 9",
+    "remove a",
     "setattr a j x",
     "rmattr a k",
+    "rmattrs a",
+    "omap_setkeys a k x",
+    "omap_rmkeys a o",
+    "omap_rmkeyrange a k z 9",
+    "omap_clear a",
     "read a 0 9",
     "stat a",
     "getattr a k",

@@ -11,7 +11,7 @@ use std::fmt::Write;
 
 // Each operation with a letter for each word that is drawn: a name, a key, an offset, a length, a bound,
 // a value, and bytes.
-const FORMS: [&str; 22] = [
+const FORMS: [&str; 32] = [
     "touch N",
     "touch N",
     "setattr N K V",
@@ -27,6 +27,16 @@ const FORMS: [&str; 22] = [
     "omap_rmkeys N K",
     "omap_rmkeys N K K K",
     "omap_clear N",
+    "omap_rmkeyrange N K K B",
+    "omap_rmkeyrange N K K B",
+    "write N O X",
+    "write N O X",
+    "write N O X",
+    "zero N O L",
+    "zero N O L",
+    "truncate N O",
+    "truncate N O",
+    "remove N",
     "read N O L",
     "stat N",
     "getattr N K",
@@ -59,7 +69,7 @@ fn script_of(alloc: Global, dice: &mut Dice, count: u32) -> Result<String, Alloc
 }
 
 fn push_operation(script: &mut String, dice: &mut Dice) -> Result<(), AllocError> {
-    let form = FORMS[dice.below(22) as usize];
+    let form = FORMS[dice.below(32) as usize];
     for letter in form.as_bytes() {
         match *letter {
             b'N' => script.push_str(NAMES[dice.below(6) as usize])?,
@@ -73,7 +83,8 @@ fn push_operation(script: &mut String, dice: &mut Dice) -> Result<(), AllocError
             }
             b'X' => {
                 let length = LENGTHS[dice.below(8) as usize];
-                push_bytes(script, dice, length + 1)?;
+                push_bytes(script, dice, length)?;
+                script.push_str("41")?;
             }
             other => script.push(char::from(other))?,
         }
@@ -99,10 +110,10 @@ fn push_bytes(script: &mut String, dice: &mut Dice, below: u64) -> Result<(), Al
 #[test]
 fn random_requests_are_answered_as_by_a_map(rt: HostRuntime) -> Result<(), TrialFault> {
     let alloc = rt.alloc();
-    for seed in 1..=3 {
+    for seed in 1..=4 {
         let mut dice = Dice::new(seed);
         let mut twin = Twin::new(alloc, Nths::new(alloc));
-        let script = script_of(alloc, &mut dice, 60)?;
+        let script = script_of(alloc, &mut dice, 500)?;
         for request in &requests_of(alloc, script.as_str())? {
             twin.serve(&rt, request)?;
             twin.check(&rt)?;

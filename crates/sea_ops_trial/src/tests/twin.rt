@@ -56,12 +56,13 @@ impl Twin {
         let mut number = 0u32;
         for op in request.ops() {
             number = number.saturating_add(1);
-            match self.store.exec(op)? {
+            match self.store.exec(op) {
                 Ok(item) => items.push(item)?,
-                Err(why) => {
+                Err(TrialFault::Refused(why)) => {
                     self.take_back(first)?;
                     return Ok(Reply::Refused { op: number, why });
                 }
+                Err(fault) => return Err(fault),
             }
         }
         self.keep(first)?;
@@ -137,10 +138,10 @@ impl Twin {
             ops.push(Op::List { limit, after })?;
             let request = Request::new(ops).map_err(|_| TrialFault::BeyondLimits)?;
             let Reply::Done(items) = self.objects.apply(&request)? else {
-                return Err(TrialFault::Refused);
+                return Err(TrialFault::WrongAnswer);
             };
             let Some(Item::Names(names)) = items.items().first() else {
-                return Err(TrialFault::Refused);
+                return Err(TrialFault::WrongAnswer);
             };
             let Some(last) = names.items().last() else {
                 return Ok(count);
