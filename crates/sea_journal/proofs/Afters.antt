@@ -194,6 +194,7 @@ module _ (old new : List ℕ) (t : Trail) (trail : IsTrail old t) (torn : Torn (
           last = refl;
           gone = tail.gone;
           records = tail.left;
+          none = tail.none;
         },
         refl,
       )

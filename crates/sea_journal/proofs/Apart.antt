@@ -353,5 +353,5 @@ module _ (old new : List ℕ) (s : ℕ) (torn : Torn (4096 * header_block s) (40
               linked = trail.linked;
               records = trail.records;
             },
-            record { segments = refl; active = refl; seq = refl; ends = refl; last = refl; gone = []; records = append-nil t.records },
+            record { segments = refl; active = refl; seq = refl; ends = refl; last = refl; gone = []; records = append-nil t.records; none = λ all. refl },
           )

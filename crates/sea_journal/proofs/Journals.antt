@@ -194,6 +194,7 @@ none_synced log none = record {
     last = refl;
     gone = [];
     records = append-nil log.trail.records;
+    none = λ all. refl;
   });
   stand = refl;
   queued = none;

@@ -1,7 +1,7 @@
 -- A mount record goes on behind what was found.
 use Rattle.std.proofs.Common.{◌≡◌, ℕ, ◌+◌, ◌-◌, ◌*◌, ◌^◌, ◌<◌, ◌≤◌, ◌⊎◌, List, [], ◌∷◌, ◌++◌, length, take, drop, refl, sym, ap, ◌∙◌, subst, inl, inr, arith, take-append-drop, Option, Some, None}
 use Rattle.std.specs.Prelude.{MatchOption}
-use Rattle.std.specs.List.{Contains}
+use Rattle.std.specs.List.{All, Contains}
 use Rattle.std.proofs.lemmas.Bool.{cases_lt}
 use Rattle.std.proofs.lemmas.List.{append-nil}
 use Rattle.std.proofs.lemmas.List.Elements.{Contains-append_left, Contains-push, Contains-push_cases}
@@ -157,6 +157,7 @@ alike_prefix a b c same (up_to_record has) =
         last = ext.last ∙ ap (λ (l : Link). last_link l news) same.last;
         gone = ext.gone;
         records = ap (λ (rs : List Record). rs ++ news) (sym same.records) ∙ ext.records;
+        none = λ all. ext.none (subst (λ (l : Link). All (λ r. r.tail ≡ l.tail) news) (sym same.last) all);
       };
     })
 alike_prefix a b c same (up_to_header h has) =
@@ -190,7 +191,7 @@ alike_mounted a b same =
 -- ---- what was found, and the past that the mount record goes on from
 
 pub extends_self : (t : Trail) → Extends t [] t
-extends_self t = record { segments = refl; active = refl; seq = refl; ends = refl; last = refl; gone = []; records = append-nil t.records }
+extends_self t = record { segments = refl; active = refl; seq = refl; ends = refl; last = refl; gone = []; records = append-nil t.records; none = λ all. refl }
 
 -- nothing was written
 torn_nowhere : (at count : ℕ) (old new : List ℕ) → count ≡ 0 → Torn at count old new → new ≡ old

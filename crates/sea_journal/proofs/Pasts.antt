@@ -1,10 +1,11 @@
 -- What holds of a journal's past, and how it goes on.
-use Rattle.std.proofs.Common.{◌≡◌, ℕ, zero, suc, ◌+◌, ◌-◌, ◌*◌, ◌<◌, ◌≤◌, List, [], ◌∷◌, ◌++◌, length, take, drop, refl, sym, ap, ◌∙◌, subst, inl, inr, arith, append_assoc, length-append, Option, None, IfSome}
+use Rattle.std.proofs.Common.{◌≡◌, ℕ, zero, suc, ◌+◌, ◌-◌, ◌*◌, ◌<◌, ◌≤◌, ◌≢◌, ◌⊎◌, List, [], ◌∷◌, ◌++◌, length, take, drop, refl, sym, ap, ◌∙◌, subst, inl, inr, arith, append_assoc, length-append, Option, None, IfSome}
 use Rattle.std.specs.List.{All, Contains}
 use Rattle.std.proofs.lemmas.List.{append-nil, take_all, take-append-le}
-use Rattle.std.proofs.lemmas.List.Elements.{Contains-append_cases, All-append, All-cons, All-contains, All-contains_itself, All-nil, All-push, All-tail, All-weaker, Contains-append_left, Contains-append_right, Contains-push, Contains-push_cases}
+use Rattle.std.proofs.lemmas.List.Elements.{Contains-append_cases, All-append, All-cons, All-contains, All-contains_itself, All-head, All-nil, All-push, All-tail, All-weaker, Contains-append_left, Contains-append_right, Contains-push, Contains-push_cases}
 use Rattle.std.proofs.lemmas.List.Concat.{flat_map-append}
 use Rattle.std.proofs.lemmas.Bool.{cases_lt}
+use Rattle.std.proofs.lemmas.Bool.Decides.{eqb_tells}
 use Rattle.sea_base.specs.declared.place.Tail.{Tail}
 use Rattle.sea_device.specs.Device.{Torn}
 use Rattle.sea_record.specs.Record.{blocks}
@@ -21,7 +22,7 @@ use Rattle.sea_trail.proofs.Chains.{chain_end-append, last_link-append}
 use Rattle.sea_trail.proofs.Growth.{grown_chain, grows_from}
 use Rattle.sea_trail.proofs.Unique.{one_trail}
 use Rattle.sea_journal.specs.Links.{IsNext, Linked, StandInRow}
-use Rattle.sea_journal.specs.Log.{Log, IsLog, IsBehind, IsClear, IsKnown, IsKnownHeader, IsNextHeader, IsOnTrail, IsSynced, HasPrefix, HasTail, NamesTail, at_end, at_record, pushed, stays, up_to_record}
+use Rattle.sea_journal.specs.Log.{Log, IsLog, IsBehind, IsClear, IsKnown, IsKnownHeader, IsNextHeader, IsOnTrail, IsSynced, HasPrefix, HasTail, NamesTail, NoneGone, at_end, at_record, pushed, stays, up_to_record}
 use Rattle.sea_journal.specs.Resume.{opened}
 use Rattle.sea_journal.proofs.Afters.{extended, had, keeps, newest_still, of_before}
 use Rattle.sea_journal.proofs.Rows.{clear_chain, in_cons, linked_rise, linked_upto, longer_row, row_in_chain, row_of_chain}
@@ -29,6 +30,10 @@ use Rattle.sea_journal.proofs.Rows.{clear_chain, in_cons, linked_rise, linked_up
 All-behind : {X : Type 0} (P : X → Type 0) (xs ys : List X) → All P (xs ++ ys) → All P ys
 All-behind P [] ys all = all
 All-behind P (x ∷ xs) ys all = All-behind P xs ys (All-tail P x (xs ++ ys) all)
+
+All-front : {X : Type 0} (P : X → Type 0) (xs ys : List X) → All P (xs ++ ys) → All P xs
+All-front P [] ys all = All-nil P
+All-front P (x ∷ xs) ys all = All-cons P x xs (All-head P x (xs ++ ys) all) (All-front P xs ys (All-tail P x (xs ++ ys) all))
 
 -- two headers that are the newest stand in one segment, and are one
 pub same_newest : (image : List ℕ) (segments : ℕ) (h k : Header) → IsNewest image segments h → IsNewest image segments k → h ≡ k
@@ -137,6 +142,7 @@ own_tail image t trail =
       from = subst (λ (rs : List Record). AreFrom t.tail.place.0 (trail.closed ++ grown_part trail.newest [] ∷ []) rs) (append-nil t.records) (grows_from t.tail.place.0 trail.closed trail.newest t.records [] trail.records);
       gone = [];
       left = append-nil t.records;
+      none = λ all. refl;
     }
 
 pub own_tails : (image : List ℕ) (t : Trail) (trail : IsTrail image t) (j : ℕ) → j ≤ 0 → HasTail image t trail (take j [])
@@ -343,6 +349,31 @@ grown_more p rs r =
     ∙ ap (λ (e : ℕ). made (p.records ++ (rs ++ r ∷ [])) e (last_link (last_link p.last rs) (r ∷ []))) (sym (chain_end-append p.end.0 rs (r ∷ [])))
     ∙ ap (λ (l : Link). made (p.records ++ (rs ++ r ∷ [])) (chain_end p.end.0 (rs ++ r ∷ [])) l) (sym (last_link-append p.last rs (r ∷ [])))
 
+-- records that name a tail end with it
+pub last_tail : (tail : Tail) (link : Link) (rs : List Record) → link.tail ≡ tail → All (λ r. r.tail ≡ tail) rs → (last_link link rs).tail ≡ tail
+last_tail tail link [] is all = is
+last_tail tail link (r ∷ rs) is all = last_tail tail (link_of r) rs (All-head (λ x. x.tail ≡ tail) r rs all) (All-tail (λ x. x.tail ≡ tail) r rs all)
+
+tail_at : ℕ → ℕ → Tail
+tail_at seq place = record { seq = seq; place = record { 0 = place } }
+
+tail_cases : (a b : Tail) → (a ≡ b) ⊎ (a ≢ b)
+unfolding tail_at
+tail_cases a b = elim (eqb_tells a.seq b.seq) [
+  | inl seq ↦ elim (eqb_tells a.place.0 b.place.0) [
+    | inl place ↦ inl (ap (λ (s : ℕ). tail_at s a.place.0) seq.1 ∙ ap (λ (p : ℕ). tail_at b.seq p) place.1)
+    | inr other ↦ inr (λ same. other.1 (ap (λ (t : Tail). t.place.0) same))
+  ]
+  | inr other ↦ inr (λ same. other.1 (ap (λ (t : Tail). t.seq) same))
+]
+
+-- where a record names another tail than the last one, not all name that of the trail
+moves : (t : Trail) (rs : List Record) (r : Record) (gone : List Record) → r.tail ≢ (last_link (trail_link t) rs).tail → NoneGone t (rs ++ r ∷ []) gone
+moves t rs r gone other all =
+    let own : r.tail ≡ t.tail = All-head (λ x. x.tail ≡ t.tail) r [] (All-behind (λ x. x.tail ≡ t.tail) rs (r ∷ []) all) in
+    let last = last_tail t.tail (trail_link t) rs refl (All-front (λ x. x.tail ≡ t.tail) rs (r ∷ []) all) in
+    absurd (other (own ∙ sym last))
+
 -- where the tail stays
 tail_kept : (anchor : List ℕ) (t : Trail) (trail : IsTrail anchor t) (rs : List Record) (r : Record) → r.tail ≡ (last_link (trail_link t) rs).tail → HasTail anchor t trail rs → HasTail anchor t trail (rs ++ r ∷ [])
 tail_kept anchor t trail rs r keeps_tail has =
@@ -360,11 +391,12 @@ tail_kept anchor t trail rs r keeps_tail has =
           (grows_from (last_link (trail_link t) rs).tail.place.0 has.closed (grown_part trail.newest rs) has.records (r ∷ []) has.from));
       gone = has.gone;
       left = sym (append_assoc t.records rs (r ∷ [])) ∙ ap (λ (xs : List Record). xs ++ r ∷ []) has.left ∙ append_assoc has.gone has.records (r ∷ []);
+      none = λ all. has.none (All-front (λ x. x.tail ≡ t.tail) rs (r ∷ []) all);
     }
 
 -- where the tail moves to the place of the record that names it
-tail_at_end : (anchor : List ℕ) (t : Trail) (trail : IsTrail anchor t) (rs : List Record) (r : Record) → r.tail.seq ≡ t.seq → r.tail.place.0 ≡ chain_end t.end.0 rs → HasTail anchor t trail (rs ++ r ∷ [])
-tail_at_end anchor t trail rs r seq place =
+tail_at_end : (anchor : List ℕ) (t : Trail) (trail : IsTrail anchor t) (rs : List Record) (r : Record) → r.tail ≢ (last_link (trail_link t) rs).tail → r.tail.seq ≡ t.seq → r.tail.place.0 ≡ chain_end t.end.0 rs → HasTail anchor t trail (rs ++ r ∷ [])
+tail_at_end anchor t trail rs r other seq place =
     let p = trail.newest in
     let after : (last_link (trail_link t) (rs ++ r ∷ [])).tail ≡ r.tail = ap (λ (l : Link). l.tail) (last_link-append (trail_link t) rs (r ∷ [])) in
     let number : (last_link (trail_link t) (rs ++ r ∷ [])).tail.seq ≡ r.tail.seq = ap (λ (x : Tail). x.seq) after in
@@ -385,6 +417,7 @@ tail_at_end anchor t trail rs r seq place =
       );
       gone = t.records ++ rs;
       left = sym (append_assoc t.records rs (r ∷ []));
+      none = moves t rs r (t.records ++ rs) other;
     }
 
 -- ---- the place of a record
@@ -537,8 +570,8 @@ moved image segments n (q ∷ qs) last place records x parts standing joined fro
     ]
 
 -- where the tail moves to the place of a record on the trail or in the queue
-tail_at_record : (anchor : List ℕ) (t : Trail) (trail : IsTrail anchor t) (rs : List Record) (r x : Record) → Linked t.end.0 t.seq (trail_link t) rs → Contains (t.records ++ rs) x → r.tail.seq ≡ x.seq → r.tail.place.0 ≡ x.place.0 → HasTail anchor t trail (rs ++ r ∷ [])
-tail_at_record anchor t trail rs r x linked has seq place =
+tail_at_record : (anchor : List ℕ) (t : Trail) (trail : IsTrail anchor t) (rs : List Record) (r x : Record) → r.tail ≢ (last_link (trail_link t) rs).tail → Linked t.end.0 t.seq (trail_link t) rs → Contains (t.records ++ rs) x → r.tail.seq ≡ x.seq → r.tail.place.0 ≡ x.place.0 → HasTail anchor t trail (rs ++ r ∷ [])
+tail_at_record anchor t trail rs r x other linked has seq place =
     let p = trail.newest in
     let first = first_block p.header.segment in
     let chain = trail.is_open.chain in
@@ -562,15 +595,25 @@ tail_at_record anchor t trail rs r x linked has seq place =
           (subst (λ (q : Part). AreFrom x.place.0 (to.left ++ q ∷ []) (to.behind ++ r ∷ [])) (grown_more p rs r) (grows_from x.place.0 to.left (grown_part p rs) to.behind (r ∷ []) to.from));
       gone = to.gone;
       left = sym (append_assoc t.records rs (r ∷ [])) ∙ ap (λ (ys : List Record). ys ++ r ∷ []) to.parts ∙ append_assoc to.gone to.behind (r ∷ []);
+      none = moves t rs r to.gone other;
     }
 
-next_tail : (log : Log) (r : Record) (is : IsLog log) → NamesTail log r.tail → HasTail log.anchor log.trail is.trail (log.queued ++ r ∷ [])
-next_tail log r is (stays same) =
+kept_tail : (log : Log) (r : Record) (is : IsLog log) → r.tail ≡ (last_link (trail_link log.trail) log.queued).tail → HasTail log.anchor log.trail is.trail (log.queued ++ r ∷ [])
+kept_tail log r is same =
     let news = log.queued in
     let all : take (length news) news ≡ news = take_all (length news) news (omega arith) in
     tail_kept log.anchor log.trail is.trail news r same (subst (HasTail log.anchor log.trail is.trail) all (is.tails (length news) (omega arith)))
-next_tail log r is (at_record x has seq place) = tail_at_record log.anchor log.trail is.trail log.queued r x is.linked has seq place
-next_tail log r is (at_end seq place) = tail_at_end log.anchor log.trail is.trail log.queued r seq place
+
+moved_tail : (log : Log) (r : Record) (is : IsLog log) → r.tail ≢ (last_link (trail_link log.trail) log.queued).tail → NamesTail log r.tail → HasTail log.anchor log.trail is.trail (log.queued ++ r ∷ [])
+moved_tail log r is other (stays same) = absurd (other same)
+moved_tail log r is other (at_record x has seq place) = tail_at_record log.anchor log.trail is.trail log.queued r x other is.linked has seq place
+moved_tail log r is other (at_end seq place) = tail_at_end log.anchor log.trail is.trail log.queued r other seq place
+
+next_tail : (log : Log) (r : Record) (is : IsLog log) → NamesTail log r.tail → HasTail log.anchor log.trail is.trail (log.queued ++ r ∷ [])
+next_tail log r is names = elim (tail_cases r.tail (last_link (trail_link log.trail) log.queued).tail) [
+  | inl same ↦ kept_tail log r is same
+  | inr other ↦ moved_tail log r is other names
+]
 
 pub pushed_is : (log : Log) (r : Record) → IsLog log → IsNext (chain_end log.trail.end.0 log.queued) log.trail.seq (last_link (trail_link log.trail) log.queued) r → NamesTail log r.tail → log.next ≡ None → IsLog (pushed log r)
 pushed_is log r is next names steady =

@@ -4,7 +4,7 @@ use Rattle.std.specs.Prelude.{slice_range}
 use Rattle.std.specs.Option.{option_map}
 use Rattle.std.specs.List.{Contains}
 use Rattle.std.proofs.lemmas.List.{append-nil, take_all}
-use Rattle.std.proofs.lemmas.List.Elements.{All-weaker}
+use Rattle.std.proofs.lemmas.List.Elements.{All-nil, All-weaker}
 use Rattle.sea_device.specs.declared.device.Device.{Ghosts}
 use Rattle.sea_device.specs.Device.{IsImage, Torn, overwritten}
 use Rattle.sea_record.specs.declared.record.Record.{Record}
@@ -65,6 +65,7 @@ extends_then t news u v first second = record {
   last = second.last ∙ first.last;
   gone = first.gone ++ second.gone;
   records = first.records ∙ ap (λ (rs : List Record). first.gone ++ rs) (sym (append-nil u.records) ∙ second.records) ∙ sym (append_assoc first.gone second.gone v.records);
+  none = λ all. ap (λ (rs : List Record). rs ++ second.gone) (first.none all) ∙ second.none (All-nil (λ r. r.tail ≡ u.tail));
 }
 
 same_opened : (t : Trail) (h : Header) (u v : Trail) → Opens t h u → Opens t h v → Extends u [] v
@@ -76,6 +77,7 @@ same_opened t h u v one two = record {
   last = two.last ∙ sym one.last;
   gone = [];
   records = append-nil u.records ∙ one.records ∙ sym two.records;
+  none = λ all. refl;
 }
 
 -- while a header is written an image has all that was queued, or the header too

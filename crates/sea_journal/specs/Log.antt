@@ -53,6 +53,10 @@ pub record IsClear (log : Log) (image : List ℕ) : Type 0 where
 
 -- ---- the trail, with records behind it
 
+-- Where all records behind a trail name its tail, none is left behind.
+abbrev pub NoneGone : Trail → List Record → List Record → Type 0
+NoneGone t news gone = All (λ r. r.tail ≡ t.tail) news → gone ≡ []
+
 -- The trail u is t with these records behind it, but for records that its tail has left behind.
 pub record Extends (t : Trail) (news : List Record) (u : Trail) : Type 0 where
   pub segments : u.segments ≡ t.segments
@@ -62,6 +66,7 @@ pub record Extends (t : Trail) (news : List Record) (u : Trail) : Type 0 where
   pub last : trail_link u ≡ last_link (trail_link t) news
   pub gone : List Record
   pub records : t.records ++ news ≡ gone ++ u.records
+  pub none : NoneGone t news gone
 
 -- The trail u is t with this header behind it, and no record behind that.
 pub record Opens (t : Trail) (h : Header) (u : Trail) : Type 0 where
@@ -165,6 +170,7 @@ pub record HasTail (anchor : List ℕ) (t : Trail) (trail : IsTrail anchor t) (n
       (closed ++ grown_part trail.newest news ∷ []) records
   pub gone : List Record
   pub left : t.records ++ news ≡ gone ++ records
+  pub none : NoneGone t news gone
 
 -- the headers that a journal knows can be listed
 pub record KnowsHeaders (log : Log) : Type 0 where
