@@ -8,12 +8,13 @@ use Rattle.sea_trail.specs.declared.trail.Part.{Part}
 use Rattle.sea_trail.specs.declared.trail.Trail.{Trail}
 use Rattle.sea_trail.specs.Trail.{IsTrail, IsChain, HasChain, AreParts, AreLinked, AreFrom, FollowOn, records_in, header_link, last_link, link_of, body_of, first_block}
 use Rattle.sea_engine.specs.Opens.{AreRising}
+use Rattle.sea_engine.specs.Replay.{last_number}
 use Rattle.sea_engine.proofs.Making.{rising_from}
 
--- the number of the last record, or the one before
-abbrev last_number : ℕ → List Record → ℕ
-last_number number [] = number
-last_number number (r ∷ rs) = last_number r.commit.0 rs
+-- one more
+pub last_push : (number : ℕ) (rs : List Record) (r : Record) → last_number number (rs ++ r ∷ []) ≡ r.commit.0
+last_push number [] r = refl
+last_push number (x ∷ rs) r = last_push x.commit.0 rs r
 
 rising_both : (number : ℕ) (xs ys : List Record) → AreRising number xs → AreRising (last_number number xs) ys → AreRising number (xs ++ ys)
 rising_both number [] ys first then = then

@@ -9,6 +9,8 @@ use Rattle.sea_trail.specs.declared.fault.ScanFault.TheVariants as scans
 use Rattle.sea_trail.specs.declared.trail.Trail.{Trail}
 use Rattle.sea_transactions.specs.State.{State, IsClosed}
 use Rattle.sea_engine.specs.Opens.{Change, IsShut, Makes}
+use Rattle.sea_engine.specs.Replay.{last_number}
+use Rattle.sea_record.specs.declared.record.Record.{Record}
 use Rattle.sea_engine.specs.declared.reading.OpenFault.{OpenFault}
 use Rattle.sea_engine.specs.declared.reading.OpenFault.TheVariants.{NoMemory, DeviceFault, Refused}
 use Rattle.sea_engine.specs.declared.replay.ReplayFault.{ReplayFault}
@@ -19,10 +21,12 @@ pub record IsRead (lays : Change) (image : List ℕ) (t : Trail) (state : State)
   pub is_trail : IsTrail image t
   pub made : Makes lays t.records map.empty state.objects
 
--- there are so many clients, and none has an open transaction
-pub record IsQuiet (clients : ℕ) (state : State) : Type 0 where
+-- There are so many clients, none has an open transaction, and no commit is later than the last of
+-- these records.
+pub record IsQuiet (clients : ℕ) (records : List Record) (state : State) : Type 0 where
   pub count : state.clients ≡ clients
   pub closed : (client : ℕ) → IsClosed state client
+  pub last : state.last.0 ≤ last_number 0 records
 
 -- an image that is refused is shut for that reason
 abbrev pub Shuts : Change → List ℕ → OpenFault → Type 0

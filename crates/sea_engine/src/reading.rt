@@ -70,7 +70,7 @@ pub fn read_image<D: Device, T: Transactions + Drop>(
     ensures refused { IfErr result (λ fault. IfSome (D.contents device.old)
         (λ image. Shuts T.lays image fault)) }
     ensures range { IfOk result (λ r. IsInRange r.0 (D.size device.old)) }
-    ensures quiet { IfOk result (λ r. IsQuiet clients (T.state r.1)) }
+    ensures quiet { IfOk result (λ r. IsQuiet clients r.0.records (T.state r.1)) }
     ensures synced { OnlySynced D.Device device.old device.new
         × IfOk result (λ r. IsStable D.Device device.new) }
     ensures cause { BlamesDevice DeviceFault (D.faults device.old) (D.faults device.new) result }
@@ -91,7 +91,7 @@ fn objects_of<T: Transactions + Drop>(
         → IsRead T.lays image trail.now (T.state t)) }
     ensures refused { IfErr result (λ fault. (image : List ℕ) → IsTrail image trail.now
         → Shuts T.lays image fault) }
-    ensures quiet { IfOk result (λ t. IsQuiet clients (T.state t)) }
+    ensures quiet { IfOk result (λ t. IsQuiet clients trail.now.records (T.state t)) }
     ensures no_device { result ≡ Err DeviceFault → ⊥ }
 {
     let records = trail.records.items();

@@ -1,9 +1,9 @@
 //! The objects that records make.
-ghost use Rattle.std.specs.Prelude.{◌≡◌, ℕ, ◌<◌, ◌↔◌, IsTrue, IfOk, IfErr, MatchBool};
+ghost use Rattle.std.specs.Prelude.{◌≡◌, ℕ, ◌<◌, ◌≤◌, ◌↔◌, IsTrue, IfOk, IfErr, MatchBool};
 ghost use Rattle.std.specs.FinMap as map;
 ghost use Rattle.sea_transactions.specs.State.{IsClosed};
 ghost use Rattle.sea_engine.specs.Opens.{AreRising, Makes};
-ghost use Rattle.sea_engine.specs.Replay.{IsCause, IsReplayed};
+ghost use Rattle.sea_engine.specs.Replay.{IsCause, IsReplayed, last_number};
 ghost use Rattle.sea_record.specs.declared.record.Kind.TheVariants.{Plain};
 ghost use Rattle.sea_transactions.specs.Calls.{SpellsNothing};
 
@@ -44,6 +44,17 @@ pub fn are_rising(records: &[Record]) -> bool
     true
 }
 
+/// The number of the last record, or 0 where there is none.
+pub(crate) fn last_of(records: &[Record]) -> Commit
+    ensures { result.0 ≡ last_number 0 records.now }
+{
+    let mut last = Commit(0);
+    for record in records {
+        last = record.commit;
+    }
+    last
+}
+
 // Lays what a record changes over the objects. It is false where its bytes spell no change.
 fn replay<T: Transactions>(transactions: &mut T, record: &Record) -> Result<bool, NoMemory>
     requires later { (T.state transactions.old).last.0 < record.now.commit.0 }
@@ -68,6 +79,7 @@ pub fn replayed<T: Transactions + Drop>(
     ensures made { IfOk result (λ t. Makes T.lays records.now map.empty (T.state t).objects) }
     ensures clients { IfOk result (λ t. (T.state t).clients ≡ clients) }
     ensures closed { IfOk result (λ t. (client : ℕ) → IsClosed (T.state t) client) }
+    ensures last { IfOk result (λ t. (T.state t).last.0 ≤ last_number 0 records.now) }
     ensures cause { IfErr result (IsCause T.lays records.now) }
 {
     let mut transactions = T::new(alloc, clients)?;

@@ -4,7 +4,9 @@ use Rattle.std.proofs.lemmas.Bool.{MatchBool-at_true, MatchBool-at_false}
 use Rattle.std.proofs.lemmas.List.{take_more, drop_more, take-append-drop}
 use Rattle.sea_record.specs.declared.record.Record.{Record}
 use Rattle.sea_engine.specs.Opens.{AreRising, Makes}
+use Rattle.sea_engine.specs.Replay.{last_number}
 use Rattle.sea_engine.proofs.Making.{makes_both, rising_from}
+use Rattle.sea_engine.proofs.Rising.{last_push}
 use Rattle.sea_engine.proofs.replay.replayed.Goals as goal
 
 pub returns-then-not-branch-clause-cause : goal.returns-then-not-branch-clause-cause
@@ -42,6 +44,7 @@ loop-record-preserved g c =
     record {
       made = subst (λ rs. Makes lays rs map.empty new.objects) (sym more) (makes_both lays (take i records) (this ∷ []) map.empty old.objects new.objects invariant.made (new.objects, laid.laid, refl));
       clients = laid.clients ∙ invariant.clients;
+      last = let end = ap (last_number 0) more ∙ last_push 0 (take i records) this in let upto = laid.last in omega (arith, end, upto);
       closed = laid.closed;
       rising = rising_from new.last.0 this.commit.0 (drop (i + 1) records) laid.last rising.1;
     }
