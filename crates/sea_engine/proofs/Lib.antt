@@ -1,8 +1,10 @@
 pub mod Backs
+pub mod Crashes
 pub mod Examples
 pub mod Held
 pub mod Making
 pub mod Openings
 pub mod Phases
 pub mod Rising
+pub mod Stages
 pub mod Totals

@@ -1,3 +1,6 @@
+pub mod Engine
+pub mod EngineLaws
+pub mod Mounting
 pub mod OpeningLaws
 pub mod Opens
 pub mod Reading

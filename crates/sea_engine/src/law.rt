@@ -1,7 +1,9 @@
 //! What holds of each run of turns, and of all images.
+ghost use Rattle.sea_engine.specs.EngineLaws.{AnchorOpens, LeavesPrefix};
 ghost use Rattle.sea_engine.specs.OpeningLaws.{NotShut, OneMap};
 ghost use Rattle.sea_engine.specs.TurnLaws.{Acknowledges, Appends, SendsAllBack, SendsOneBack, ServesPlan};
 
+use sea_device::Device;
 use sea_transactions::Transactions;
 
 /// A run of turns keeps a history that serves the plan, each client's requests once and in order.
@@ -19,4 +21,11 @@ pub fn turn_laws()
 pub fn opening_laws<T: Transactions>()
     ensures one { OneMap T.lays }
     ensures not_shut { NotShut T.lays }
+{}
+
+/// Each clear image that a crash may leave of an engine opens to the objects after a prefix of its
+/// history, with all that is acknowledged; and so does the image of the last good sync of records.
+pub fn engine_laws<D: Device, T: Transactions + Drop>()
+    ensures prefix { LeavesPrefix D.Device T.Transactions }
+    ensures anchor { AnchorOpens D.Device T.Transactions }
 {}

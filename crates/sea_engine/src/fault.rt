@@ -1,0 +1,89 @@
+//! Why an engine doesn't open, or a step of it fails.
+ghost use Rattle.std.specs.Prelude.{◌≡◌};
+
+use crate::reading::OpenFault;
+use sea_journal::ResumeFault;
+use sea_sets::Conflict;
+use sea_trail::ImageWhy;
+use thiserror::Error;
+
+/// A number that a journal counts.
+#[derive(Clone, Copy, Debug, PartialEq, Eq)]
+pub enum Number {
+    /// Of records.
+    Commit,
+    /// Of openings.
+    Mount,
+    /// Of segments.
+    Seq,
+}
+
+/// A number that is used up.
+#[derive(Clone, Copy, Debug, PartialEq, Eq)]
+pub struct Spent {
+    pub which: Number,
+    pub at: u64,
+}
+
+/// Why an engine doesn't open.
+#[derive(Clone, Copy, Debug, PartialEq, Eq, Error)]
+pub enum MountFault {
+    #[error("no memory")]
+    NoMemory,
+    /// A call of the device failed.
+    #[error("device fault")]
+    DeviceFault,
+    /// Its image opens to no objects.
+    #[error("refused")]
+    Refused(ImageWhy),
+    /// A number of the last record is used up.
+    #[error("spent")]
+    Spent(Spent),
+    /// There is no block for the mount record.
+    #[error("no space")]
+    NoSpace,
+}
+
+/// Why a step of a client failed. Its transaction is over, and its request waits again.
+#[derive(Clone, Copy, Debug, PartialEq, Eq, Error)]
+pub enum StepFault {
+    /// A number is used up.
+    #[error("spent")]
+    Spent(Spent),
+    /// A commit overtook what it read.
+    #[error("sent back")]
+    SentBack(Conflict),
+    /// A call of the device failed.
+    #[error("device fault")]
+    DeviceFault,
+    #[error("no memory")]
+    NoMemory,
+}
+
+impl From<OpenFault> for MountFault {
+    ghost use Rattle.sea_engine.specs.Mounting.{mount_fault};
+
+    ghost from_gives = { λ fault made. made ≡ mount_fault fault };
+
+    fn from(fault: OpenFault) -> Self {
+        match fault {
+            OpenFault::NoMemory => MountFault::NoMemory,
+            OpenFault::DeviceFault => MountFault::DeviceFault,
+            OpenFault::Refused(why) => MountFault::Refused(why),
+        }
+    }
+}
+
+impl From<ResumeFault> for MountFault {
+    ghost use Rattle.sea_engine.specs.Mounting.{resume_fault};
+
+    ghost from_gives = { λ fault made. made ≡ resume_fault fault };
+
+    fn from(fault: ResumeFault) -> Self {
+        match fault {
+            ResumeFault::NoMemory => MountFault::NoMemory,
+            ResumeFault::DeviceFault => MountFault::DeviceFault,
+            ResumeFault::NoSpace => MountFault::NoSpace,
+        }
+    }
+}
