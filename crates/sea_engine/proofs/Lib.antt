@@ -7,4 +7,5 @@ pub mod Openings
 pub mod Phases
 pub mod Rising
 pub mod Stages
+pub mod Tables
 pub mod Totals

@@ -1,9 +1,14 @@
--- Why an engine doesn't open.
-use Rattle.std.specs.Prelude.{◌≡◌, ℕ, ◌<◌, ◌≤◌, ◌^◌}
+-- What an engine begins with, and why it doesn't open.
+use Rattle.std.specs.Prelude.{◌≡◌, ℕ, ◌<◌, ◌≤◌, ◌^◌, List, Option, IfSome}
+use Rattle.sea_base.specs.Faults.{FaultsRose}
 use Rattle.sea_journal.specs.declared.journal.ResumeFault.{ResumeFault}
 use Rattle.sea_journal.specs.declared.journal.ResumeFault.TheVariants as resumes
+use Rattle.sea_segment.specs.declared.header.Header.{Header}
+use Rattle.sea_trail.specs.Trail.{IsTrail}
+use Rattle.sea_trail.specs.declared.trail.Trail.{Trail}
+use Rattle.sea_engine.specs.Opens.{Change, IsShut}
 use Rattle.sea_engine.specs.declared.fault.MountFault.{MountFault}
-use Rattle.sea_engine.specs.declared.fault.MountFault.TheVariants.{NoMemory, DeviceFault, Refused, NoSpace}
+use Rattle.sea_engine.specs.declared.fault.MountFault.TheVariants.{NoMemory, DeviceFault, Refused, Spent as IsSpent, NoSpace}
 use Rattle.sea_engine.specs.declared.fault.Number.{Number}
 use Rattle.sea_engine.specs.declared.fault.Number.TheVariants.{Commit, Mount, Seq}
 use Rattle.sea_engine.specs.declared.fault.Spent.{Spent}
@@ -37,3 +42,27 @@ pub record AreLeft (commit mount seq : ℕ) : Type 0 where
   pub commits : commit < 2 ^ 62
   pub mounts : mount < 2 ^ 62
   pub seqs : seq < 2 ^ 62
+
+-- a number of the trail of an image is used up
+pub record HasUsedUp (image : List ℕ) (spent : Spent) : Type 0 where
+  pub trail : Trail
+  pub is_trail : IsTrail image trail
+  pub used : IsUsedUp trail.commit.0 trail.mount trail.seq spent
+
+-- Why an engine doesn't open: memory ran out, a call of the device failed, the image is shut, a
+-- number is used up, or it is full.
+abbrev pub IsUnopened : Type 0 → Change → Option (List ℕ) → ℕ → ℕ → MountFault → Type 0
+IsUnopened full lays contents before now NoMemory = Unit {0}
+IsUnopened full lays contents before now DeviceFault = FaultsRose before now
+IsUnopened full lays contents before now (Refused why) =
+    IfSome contents (λ image. IsShut lays image why)
+IsUnopened full lays contents before now (IsSpent spent) =
+    IfSome contents (λ image. HasUsedUp image spent)
+IsUnopened full lays contents before now NoSpace = full
+
+-- ---- the table of segments
+
+-- a header of a segment from the tail of a trail on
+pub record IsFromTail (t : Trail) (h : Header) : Type 0 where
+  pub within : h.segment < t.segments
+  pub late : t.tail.seq ≤ h.seq

@@ -2,6 +2,7 @@
 ghost use Rattle.std.specs.Prelude.{◌≡◌};
 
 use crate::reading::OpenFault;
+use sea_base::NoMemory;
 use sea_journal::ResumeFault;
 use sea_sets::Conflict;
 use sea_trail::ImageWhy;
@@ -58,6 +59,16 @@ pub enum StepFault {
     DeviceFault,
     #[error("no memory")]
     NoMemory,
+}
+
+impl From<NoMemory> for MountFault {
+    ghost use Rattle.sea_engine.specs.declared.fault.MountFault.TheVariants.{NoMemory};
+
+    ghost from_gives = { λ _ fault. fault ≡ NoMemory };
+
+    fn from(_: NoMemory) -> Self {
+        MountFault::NoMemory
+    }
 }
 
 impl From<OpenFault> for MountFault {
