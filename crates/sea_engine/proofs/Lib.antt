@@ -3,9 +3,11 @@ pub mod Crashes
 pub mod Examples
 pub mod Held
 pub mod Making
+pub mod Mounts
 pub mod Openings
 pub mod Phases
 pub mod Rising
 pub mod Stages
+pub mod Starts
 pub mod Tables
 pub mod Totals

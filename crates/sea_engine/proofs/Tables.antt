@@ -1,5 +1,5 @@
 -- The table of the segments of a trail.
-use Rattle.std.proofs.Common.{◌≡◌, ℕ, ◌+◌, ◌<◌, ◌≤◌, List, [], ◌∷◌, length, drop, refl, sym, ap, ◌∙◌, subst, inl, inr, arith}
+use Rattle.std.proofs.Common.{◌≡◌, ℕ, ◌+◌, ◌<◌, ◌≤◌, List, [], ◌∷◌, length, refl, sym, ap, ◌∙◌, subst, inl, inr, arith}
 use Rattle.std.proofs.lemmas.Bool.{cases_lt}
 use Rattle.std.proofs.lemmas.List.{get_or-set_same}
 use Rattle.sea_segment.specs.Header.{SpellsHeader}
@@ -11,7 +11,6 @@ use Rattle.sea_segment.specs.declared.state.Segment.{Segment}
 use Rattle.sea_segment.proofs.Headers.{same_header}
 use Rattle.sea_trail.specs.Trail.{AreHeaders, HasHeader, IsTrail, StandsIn, block_of, header_block}
 use Rattle.sea_trail.specs.declared.trail.Trail.{Trail}
-use Rattle.sea_journal.specs.Log.{IsOfTrail}
 use Rattle.sea_journal.specs.Resume.{opened}
 use Rattle.sea_journal.specs.Rolls.{HasNumber, InTable}
 use Rattle.sea_journal.proofs.Rows.{same_number}

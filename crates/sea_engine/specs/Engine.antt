@@ -139,6 +139,14 @@ pub record HasPast {D T : Type 0} {d : Devices D} (t : Ghosts T) (found : Object
       → MakesPrefix t.lays (turns_of t engine) found (log.trail.records ++ take k log.queued)
   pub tails : All (λ r. r.tail ≡ log.trail.tail) log.queued
 
+-- it has a past that begins with this image
+pub record HasPastFrom {D T : Type 0} {d : Devices D} (t : Ghosts T) (image : List ℕ)
+    (engine : Engine D T d) : Type 0 where
+  pub found : ObjectMap
+  pub log : Log
+  pub from : log.opened ≡ image
+  pub past : HasPast t found log engine
+
 -- an image opens to the objects after a prefix of the history, with all that is acknowledged
 pub record OpensToPrefix (lays : Change) (turns : Turns) (found : ObjectMap) (image : List ℕ)
     : Type 0 where

@@ -3,7 +3,11 @@ use Rattle.std.specs.Prelude.{◌≡◌, ℕ, ◌<◌, ◌≤◌, ◌^◌, List,
 use Rattle.sea_base.specs.Faults.{FaultsRose}
 use Rattle.sea_journal.specs.declared.journal.ResumeFault.{ResumeFault}
 use Rattle.sea_journal.specs.declared.journal.ResumeFault.TheVariants as resumes
+use Rattle.sea_journal.specs.Opening.{HasSpace}
+use Rattle.sea_journal.specs.Resume.{opened}
+use Rattle.sea_journal.specs.Rolls.{InTable}
 use Rattle.sea_segment.specs.declared.header.Header.{Header}
+use Rattle.sea_segment.specs.declared.state.Segment.{Segment}
 use Rattle.sea_trail.specs.Trail.{IsTrail}
 use Rattle.sea_trail.specs.declared.trail.Trail.{Trail}
 use Rattle.sea_engine.specs.Opens.{Change, IsShut}
@@ -59,6 +63,14 @@ IsUnopened full lays contents before now (Refused why) =
 IsUnopened full lays contents before now (IsSpent spent) =
     IfSome contents (λ image. HasUsedUp image spent)
 IsUnopened full lays contents before now NoSpace = full
+
+-- the open segment of its trail has no block left, and no segment is empty
+pub record HasNoSpace (image : List ℕ) : Type 0 where
+  pub trail : Trail
+  pub is_trail : IsTrail image trail
+  pub table : List Segment
+  pub in_table : InTable (opened image trail) table
+  pub none : HasSpace trail table → ⊥
 
 -- ---- the table of segments
 

@@ -1,12 +1,16 @@
 //! An engine: many clients over a journal.
 ghost use Rattle.std.specs.Prelude.{◌≡◌};
 
+use crate::fault::MountFault;
+use crate::opening::{first_clients, found};
+use crate::replay::last_of;
 use crate::state::ClientState;
 use sea_base::Commit;
 use sea_device::Device;
 use sea_history::{History, Plan};
 use sea_journal::Journal;
 use sea_transactions::Transactions;
+use std::alloc::Global;
 
 /// Many clients whose requests overlap, over a journal.
 #[derive(Drop)]
@@ -24,6 +28,45 @@ pub struct Engine<D: Device, T: Transactions + Drop> {
 impl<D: Device, T: Transactions + Drop> Engine<D, T> {
     ghost use Rattle.sea_journal.specs.Rolls.{rest_of};
     ghost use Rattle.sea_segment.specs.Table.{empty_of};
+    ghost use Rattle.std.specs.Prelude.{ℕ, List, Some, IfErr, IfOk, IfSome};
+    ghost use Rattle.sea_engine.specs.Engine.{AllServed, HasPastFrom, IsSound, turns_of};
+    ghost use Rattle.sea_engine.specs.Mounting.{HasNoSpace, IsUnopened};
+    ghost use Rattle.sea_engine.specs.Turns.{opened};
+
+    /// Opens a device for the clients of a plan, of whose requests none is entered. It syncs the
+    /// device and reads it, and goes on behind its trail with a mount record. Where it fails it
+    /// hands the device back.
+    pub fn open(alloc: Global, device: D, plan: Plan) -> Result<Engine<D, T>, (D, MountFault)>
+        requires served { AllServed T.serves plan }
+        ensures sound { IfOk result (IsSound T.Transactions) }
+        ensures turns { IfOk result (λ engine. turns_of T.Transactions engine ≡ opened plan) }
+        ensures past { (image : List ℕ) → D.contents device ≡ Some image
+            → IfOk result (HasPastFrom T.Transactions image) }
+        ensures fault { IfErr result (λ e. IsUnopened (IfSome (D.contents device) HasNoSpace) T.lays
+            (D.contents device) (D.faults device) (D.faults e.0) e.1) }
+    {
+        let mut device = device;
+        let (trail, transactions, table) = match found(alloc, &mut device, plan.clients()) {
+            Ok(found) => found,
+            Err(fault) => return Err((device, fault)),
+        };
+        let (states, history) = match first_clients(alloc, &plan) {
+            Ok(clients) => clients,
+            Err(_) => return Err((device, MountFault::NoMemory)),
+        };
+        let last = last_of(trail.records.items());
+        match Journal::resume(alloc, device, &trail, table) {
+            Ok(journal) => Ok(Engine {
+                journal,
+                transactions,
+                plan,
+                states,
+                history,
+                last,
+            }),
+            Err((device, fault)) => Err((device, fault.into())),
+        }
+    }
 
     /// What was served, and how much of it is acknowledged.
     pub fn history(&self) -> &History

@@ -6,6 +6,7 @@ ghost use Rattle.sea_engine.specs.Mounting.{AreLeft, IsFromTail, IsUnopened, IsU
 ghost use Rattle.sea_engine.specs.Reading.{IsQuiet, IsRead};
 ghost use Rattle.sea_engine.specs.Turns.{at_rest, first_phase, request_after};
 ghost use Rattle.sea_history.specs.Plan.{IsClientOf};
+ghost use Rattle.sea_history.specs.Record.{empty_record};
 ghost use Rattle.sea_journal.specs.Opening.{IsFound};
 ghost use Rattle.sea_journal.specs.Resume.{CanResume, opened};
 ghost use Rattle.sea_journal.specs.Rolls.{InTable};
@@ -18,7 +19,7 @@ use crate::reading::read_image;
 use crate::state::ClientState;
 use sea_base::{Commit, NoMemory};
 use sea_device::Device;
-use sea_history::Plan;
+use sea_history::{History, Plan};
 use sea_segment::{Header, SegState, Table};
 use sea_trail::Trail;
 use sea_transactions::Transactions;
@@ -74,6 +75,20 @@ pub(crate) fn first_states(alloc: Global, plan: &Plan) -> Result<Vec<ClientState
         states.push(rested(plan, index + 1, 0))?;
     }
     Ok(states)
+}
+
+/// The states of clients of whose requests none is entered, and their history.
+pub(crate) fn first_clients(
+    alloc: Global,
+    plan: &Plan,
+) -> Result<(Vec<ClientState>, History), NoMemory>
+    ensures states { IfOk result (λ r. (transaction : ℕ → Transaction)
+        → phases_from 1 r.0.items transaction ≡ map first_phase plan.now) }
+    ensures history { IfOk result (λ r. r.1 ≡ empty_record (length plan.now)) }
+{
+    let states = first_states(alloc, plan)?;
+    let history = History::new(alloc, plan.clients())?;
+    Ok((states, history))
 }
 
 // Whether a header is that of a segment from the tail of a trail on.

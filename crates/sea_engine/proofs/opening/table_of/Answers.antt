@@ -2,7 +2,6 @@ use Rattle.std.proofs.Common.{◌+◌, List, [], length, drop, sym, ap, ◌∙�
 use Rattle.std.proofs.lemmas.Bool.{false≢true}
 use Rattle.std.proofs.lemmas.List.{drop_more, drop_all}
 use Rattle.sea_segment.specs.declared.state.Segment.{Segment}
-use Rattle.sea_segment.specs.declared.header.Header.{Header}
 use Rattle.sea_trail.specs.Trail.{AreHeaders}
 use Rattle.sea_journal.specs.Resume.{opened}
 use Rattle.sea_journal.specs.Rolls.{InTable}
