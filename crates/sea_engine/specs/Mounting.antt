@@ -3,12 +3,13 @@ use Rattle.std.specs.Prelude.{◌≡◌, ℕ, ◌<◌, ◌≤◌, ◌^◌, List,
 use Rattle.sea_base.specs.Faults.{FaultsRose}
 use Rattle.sea_journal.specs.declared.journal.ResumeFault.{ResumeFault}
 use Rattle.sea_journal.specs.declared.journal.ResumeFault.TheVariants as resumes
-use Rattle.sea_journal.specs.Opening.{HasSpace}
-use Rattle.sea_journal.specs.Resume.{opened}
-use Rattle.sea_journal.specs.Rolls.{InTable}
+use Rattle.std.specs.List.{All}
+use Rattle.sea_journal.specs.Log.{IsOfTrail}
+use Rattle.sea_journal.specs.Rolls.{HasNumber}
+use Rattle.sea_segment.specs.Table.{state_of}
 use Rattle.sea_segment.specs.declared.header.Header.{Header}
 use Rattle.sea_segment.specs.declared.state.Segment.{Segment}
-use Rattle.sea_trail.specs.Trail.{IsTrail}
+use Rattle.sea_trail.specs.Trail.{IsTrail, segment_end}
 use Rattle.sea_trail.specs.declared.trail.Trail.{Trail}
 use Rattle.sea_engine.specs.Opens.{Change, IsShut}
 use Rattle.sea_engine.specs.declared.fault.MountFault.{MountFault}
@@ -64,17 +65,21 @@ IsUnopened full lays contents before now (IsSpent spent) =
     IfSome contents (λ image. HasUsedUp image spent)
 IsUnopened full lays contents before now NoSpace = full
 
--- the open segment of its trail has no block left, and no segment is empty
+-- the open segment of its trail has no block left, and each segment is one of the trail
 pub record HasNoSpace (image : List ℕ) : Type 0 where
   pub trail : Trail
   pub is_trail : IsTrail image trail
-  pub table : List Segment
-  pub in_table : InTable (opened image trail) table
-  pub none : HasSpace trail table → ⊥
+  pub full : segment_end trail.active ≤ trail.end.0
+  pub used : (s : ℕ) → s < trail.segments → (n : ℕ) × IsOfTrail image trail s n
 
 -- ---- the table of segments
 
--- a header of a segment from the tail of a trail on
+-- a header of a segment from the tail of a trail on: no lower segment has its number
 pub record IsFromTail (t : Trail) (h : Header) : Type 0 where
   pub within : h.segment < t.segments
   pub late : t.tail.seq ≤ h.seq
+  pub least : All (λ k. k.seq ≡ h.seq → h.segment ≤ k.segment) t.headers
+
+-- each segment that is in use is one of the trail
+abbrev pub UsesNoOther : List ℕ → Trail → List Segment → Type 0
+UsesNoOther image t table = (s n : ℕ) → HasNumber (state_of table s) n → IsOfTrail image t s n

@@ -1,8 +1,9 @@
 //! What an engine finds on a device.
 ghost use Rattle.std.specs.Prelude.{◌≡◌, ◌<◌, ◌≤◌, ◌↔◌, ℕ, List, Some, length, map};
 ghost use Rattle.std.specs.Prelude.{IfErr, IfOk, IsTrue, MatchOption};
+ghost use Rattle.std.specs.List.{All};
 ghost use Rattle.sea_engine.specs.Engine.{phase_at, phases_from};
-ghost use Rattle.sea_engine.specs.Mounting.{AreLeft, IsFromTail, IsUnopened, IsUsedUp};
+ghost use Rattle.sea_engine.specs.Mounting.{AreLeft, IsFromTail, IsUnopened, IsUsedUp, UsesNoOther};
 ghost use Rattle.sea_engine.specs.Reading.{IsQuiet, IsRead};
 ghost use Rattle.sea_engine.specs.Turns.{at_rest, first_phase, request_after};
 ghost use Rattle.sea_history.specs.Plan.{IsClientOf};
@@ -91,11 +92,21 @@ pub(crate) fn first_clients(
     Ok((states, history))
 }
 
+// Whether no header with the number of this one is that of a lower segment.
+fn is_least(header: &Header, headers: &[Header]) -> bool
+    ensures { IsTrue result ↔ All (λ k. k.seq ≡ header.now.seq
+        → header.now.segment ≤ k.segment) headers.now }
+{
+    headers.iter().all(|other| other.seq != header.seq || header.segment <= other.segment)
+}
+
 // Whether a header is that of a segment from the tail of a trail on.
 fn is_from_tail(header: &Header, trail: &Trail) -> bool
     ensures { IsTrue result ↔ IsFromTail trail.now header.now }
 {
-    header.segment < trail.segments && header.seq >= trail.tail.seq
+    header.segment < trail.segments
+        && header.seq >= trail.tail.seq
+        && is_least(header, trail.headers.items())
 }
 
 /// The table of the segments of a trail, in which no block is live.
@@ -104,6 +115,8 @@ pub(crate) fn table_of(alloc: Global, trail: &Trail) -> Result<Table, NoMemory>
     ensures count { IfOk result (λ table. length table ≡ trail.now.segments) }
     ensures in_table { IfOk result (λ table. (image : List ℕ) → IsTrail image trail.now
         → InTable (opened image trail.now) table) }
+    ensures no_other { IfOk result (λ table. (image : List ℕ) → IsTrail image trail.now
+        → UsesNoOther image trail.now table) }
 {
     let mut table = Table::new(alloc, trail.segments)?;
     let headers = trail.headers.items();
@@ -125,7 +138,8 @@ pub(crate) fn found<D: Device, T: Transactions + Drop>(
     clients: u32,
 ) -> Result<(Trail, T, Table), MountFault>
     ensures opens { IfOk result (λ r. (image : List ℕ) → D.contents device.old ≡ Some image
-        → IsRead T.lays image r.0 (T.state r.1) × IsFound D.Device image r.0 r.2 device.new) }
+        → IsRead T.lays image r.0 (T.state r.1) × IsFound D.Device image r.0 r.2 device.new
+        × UsesNoOther image r.0 r.2) }
     ensures can { IfOk result (λ r. CanResume r.0 (D.size device.new)
         × (length r.2 ≡ r.0.segments)) }
     ensures quiet { IfOk result (λ r. IsQuiet clients r.0.records (T.state r.1)) }

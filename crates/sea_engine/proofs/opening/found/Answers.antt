@@ -17,4 +17,5 @@ returns-clause-opens g c = λ image told.
         alone = λ left may. IfSome-at (λ b. left ≡ b) image now (synced.1 left may);
         in_table = c.in_ok-table.ensures.in_table image read.is_trail;
       },
+      c.in_ok-table.ensures.no_other image read.is_trail,
     )

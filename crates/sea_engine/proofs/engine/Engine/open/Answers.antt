@@ -5,7 +5,7 @@ use Rattle.sea_journal.proofs.Calls.{IfSome-from}
 use Rattle.sea_engine.specs.Mounting.{HasNoSpace, IsUnopened}
 use Rattle.sea_engine.specs.Reading.{IsQuiet}
 use Rattle.sea_engine.specs.Replay.{last_number}
-use Rattle.sea_engine.proofs.Mounts.{not_begun}
+use Rattle.sea_engine.proofs.Mounts.{no_space, not_begun}
 use Rattle.sea_engine.proofs.Starts.{past_first, sound_first}
 use Rattle.sea_engine.proofs.engine.Engine.open.Goals as goal
 
@@ -33,6 +33,6 @@ returns-in-Err-resume-clause-fault g c =
     let space = HasSpace c.in-Ok.found.0 c.in-Ok.found.2 in
     let none : (space → ⊥) → IfSome told HasNoSpace = λ no. IfSome-from told HasNoSpace (λ image is.
     let both = c.in-Ok.ensures.opens image is in
-    record { trail = c.in-Ok.found.0; is_trail = both.0.is_trail; table = c.in-Ok.found.2; in_table = both.1.in_table; none = no }) in
+    no_space image c.in-Ok.found.0 c.in-Ok.found.2 both.0.is_trail c.in-Ok.ensures.can.1 both.2 no) in
     subst (IsUnopened (IfSome told HasNoSpace) lays told before now) (sym c.into.ensures)
     (not_begun (IfSome told HasNoSpace) lays told before now (g.D.Device.faults c.found.new.device) space c.in-Err-resume.fault c.in-Ok.ensures.later none c.in-Err-resume.ensures.cause)
