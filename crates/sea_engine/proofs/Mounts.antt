@@ -41,7 +41,7 @@ no_space image t table is count other none = record {
       let inside : s < length table = subst (λ (n : ℕ). s < n) (sym count) within in
       elim (numbered (state_of table s)) [
         | inl empty ↦ absurd (none (inr (some_empty table s inside empty)))
-        | inr number ↦ (number.0, other s number.0 number.1)
+        | inr number ↦ (number.0, (other s number.0 number.1).of_trail)
       ];
 }
 

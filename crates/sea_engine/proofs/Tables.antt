@@ -15,6 +15,7 @@ use Rattle.sea_segment.proofs.Headers.{same_header}
 use Rattle.sea_trail.specs.Trail.{AreHeaders, HasHeader, IsNumbered, IsTrail, StandsIn, block_of, header_block}
 use Rattle.sea_trail.specs.declared.link.Link.{Link}
 use Rattle.sea_trail.specs.declared.trail.Trail.{Trail}
+use Rattle.sea_journal.specs.Log.{IsOfTrail}
 use Rattle.sea_journal.specs.Resume.{opened}
 use Rattle.sea_journal.specs.Rolls.{HasNumber, InTable}
 use Rattle.sea_journal.proofs.Rows.{same_number}
@@ -26,7 +27,7 @@ pub record Covers (image : List ℕ) (t : Trail) (table : List Segment) (left : 
   pub from : ℕ
   pub headers : AreHeaders image from t.segments left
   pub has : (k : Header) → HasHeader image t.segments k → k.segment < from → IsFromTail t k → HasNumber (state_of table k.segment) k.seq
-  pub only : (s n : ℕ) → HasNumber (state_of table s) n → (k : Header) × HasHeader image t.segments k × IsFromTail t k × (k.segment ≡ s) × (k.seq ≡ n)
+  pub only : (s n : ℕ) → HasNumber (state_of table s) n → (k : Header) × HasHeader image t.segments k × IsFromTail t k × (k.segment ≡ s) × (k.seq ≡ n) × (state_of table s ≡ Closed n)
 
 state_same : (table : List Segment) (s : ℕ) (state : SegState) → s < length table → state_of (with_state table s state) s ≡ state
 state_same table s state within = ap (λ (x : Segment). x.state) (get_or-set_same table s (record { state = state; live = live_of table s }) fresh within)
@@ -133,9 +134,13 @@ module _ (image : List ℕ) (t : Trail) (table : List Segment) (left : List Head
               | inl at ↦ (
                   let here : HasNumber (state_of (with_state table h.segment (Closed h.seq)) h.segment) n = subst (λ (x : ℕ). HasNumber (state_of (with_state table h.segment (Closed h.seq)) x) n) at number in
                   let same : h.seq ≡ n = subst (λ (x : SegState). HasNumber x n) (state_same table h.segment (Closed h.seq) within) here in
-                  (h, record { within = are.1; stands = are.2 }, from, sym at, same)
+                  (h, record { within = are.1; stands = are.2 }, from, sym at, same, ap (state_of (with_state table h.segment (Closed h.seq))) at ∙ state_same table h.segment (Closed h.seq) within ∙ ap (λ (x : ℕ). Closed x) same)
                   )
-              | inr other ↦ covers.only s n (subst (λ (x : SegState). HasNumber x n) (state_other table h.segment s (Closed h.seq) other) number)
+              | inr other ↦ (
+                  let still = state_other table h.segment s (Closed h.seq) other in
+                  let k = covers.only s n (subst (λ (x : SegState). HasNumber x n) still number) in
+                  (k.0, k.1, k.2, k.3, k.4, still ∙ k.5)
+                  )
             ];
       }
 
@@ -179,24 +184,31 @@ covers_only image t table count within is covers = λ s n number.
           let same : t.seq ≡ n = subst (λ (x : SegState). HasNumber x n) (state_same table t.active (Active t.seq) inside) here in
           let tail : t.tail.seq ≡ is.newest.last.tail.seq = ap (λ (l : Link). l.tail.seq) is.last in
           let joined = is.are_closed.joined in
-          record {
+          let found : IsOfTrail image t s n = record {
             from = omega (arith, tail, joined, e, same);
             upto = omega (arith, same);
             header = is.newest.header;
             numbered = subst (λ (m : ℕ). IsNumbered image t.segments m is.newest.header) (sym e ∙ same) is.is_open.newest.numbered;
             here = sym is.active ∙ sym at;
+          } in
+          record {
+            of_trail = found;
+            active = λ _. ap (state_of now) at ∙ state_same table t.active (Active t.seq) inside ∙ ap (λ (x : ℕ). Active x) same;
+            closed = λ not. absurd (not at);
           }
           )
       | inr other ↦ (
-          let k = covers.only s n (subst (λ (x : SegState). HasNumber x n) (state_other table t.active s (Active t.seq) other) number) in
+          let still = state_other table t.active s (Active t.seq) other in
+          let k = covers.only s n (subst (λ (x : SegState). HasNumber x n) still number) in
           let greatest = is.is_open.newest.greatest k.0 k.1 in
           let same = k.4 in
-          record {
+          let found : IsOfTrail image t s n = record {
             from = subst (λ (m : ℕ). t.tail.seq ≤ m) same k.2.late;
             upto = omega (arith, greatest, e, same);
             header = k.0;
             numbered = subst (λ (m : ℕ). IsNumbered image t.segments m k.0) same (numbered_from image t k.0 is.headers k.1 k.2);
             here = k.3;
-          }
+          } in
+          record { of_trail = found; active = λ at. absurd (other at); closed = λ _. still ∙ k.5 }
           )
     ]

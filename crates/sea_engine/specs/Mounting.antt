@@ -8,6 +8,8 @@ use Rattle.sea_journal.specs.Log.{IsOfTrail}
 use Rattle.sea_journal.specs.Rolls.{HasNumber}
 use Rattle.sea_segment.specs.Table.{state_of}
 use Rattle.sea_segment.specs.declared.header.Header.{Header}
+use Rattle.sea_segment.specs.declared.state.SegState.{SegState}
+use Rattle.sea_segment.specs.declared.state.SegState.TheVariants.{Active, Closed}
 use Rattle.sea_segment.specs.declared.state.Segment.{Segment}
 use Rattle.sea_trail.specs.Trail.{IsTrail, segment_end}
 use Rattle.sea_trail.specs.declared.trail.Trail.{Trail}
@@ -80,6 +82,13 @@ pub record IsFromTail (t : Trail) (h : Header) : Type 0 where
   pub late : t.tail.seq ≤ h.seq
   pub least : All (λ k. k.seq ≡ h.seq → h.segment ≤ k.segment) t.headers
 
+-- The segment is one of the trail, and closed unless it is the open one.
+pub record IsUsed (image : List ℕ) (t : Trail) (s n : ℕ) (state : SegState) : Type 0 where
+  pub of_trail : IsOfTrail image t s n
+  pub active : s ≡ t.active → state ≡ Active n
+  pub closed : (s ≡ t.active → ⊥) → state ≡ Closed n
+
 -- each segment that is in use is one of the trail
 abbrev pub UsesNoOther : List ℕ → Trail → List Segment → Type 0
-UsesNoOther image t table = (s n : ℕ) → HasNumber (state_of table s) n → IsOfTrail image t s n
+UsesNoOther image t table =
+    (s n : ℕ) → HasNumber (state_of table s) n → IsUsed image t s n (state_of table s)
