@@ -1,10 +1,9 @@
-//! Why an engine doesn't open, or a step of it fails.
+//! Why an engine doesn't open.
 ghost use Rattle.std.specs.Prelude.{◌≡◌};
 
 use crate::reading::OpenFault;
 use sea_base::NoMemory;
 use sea_journal::ResumeFault;
-use sea_sets::Conflict;
 use sea_trail::ImageWhy;
 use thiserror::Error;
 
@@ -43,22 +42,6 @@ pub enum MountFault {
     /// There is no block for the mount record.
     #[error("no space")]
     NoSpace,
-}
-
-/// Why a step of a client failed. Its transaction is over, and its request waits again.
-#[derive(Clone, Copy, Debug, PartialEq, Eq, Error)]
-pub enum StepFault {
-    /// A number is used up.
-    #[error("spent")]
-    Spent(Spent),
-    /// A commit overtook what it read.
-    #[error("sent back")]
-    SentBack(Conflict),
-    /// A call of the device failed.
-    #[error("device fault")]
-    DeviceFault,
-    #[error("no memory")]
-    NoMemory,
 }
 
 impl From<NoMemory> for MountFault {

@@ -10,7 +10,7 @@ mod replay;
 mod state;
 
 pub use engine::Engine;
-pub use fault::{MountFault, Number, Spent, StepFault};
+pub use fault::{MountFault, Number, Spent};
 pub use law::{engine_laws, opening_laws, turn_laws};
 pub use reading::{OpenFault, read_image};
 pub use replay::{ReplayFault, are_rising, replayed};
